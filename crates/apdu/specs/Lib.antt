@@ -1,0 +1,3 @@
+pub mod Application
+pub mod Tags
+pub mod Views

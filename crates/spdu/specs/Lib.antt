@@ -1,0 +1,3 @@
+pub mod Session
+pub mod Tags
+pub mod Views
