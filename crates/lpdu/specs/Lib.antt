@@ -1,3 +1,4 @@
+pub mod Fragments
 pub mod Link
 pub mod Tags
 pub mod Views

@@ -1,3 +1,4 @@
+pub mod Commands
 pub mod Tags
 pub mod Transport
 pub mod Views
