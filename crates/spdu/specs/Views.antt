@@ -15,20 +15,21 @@ abbrev pub session : {A : Type 0} → Result A SessionFault → Result A Fault
 session (Ok a) = Ok a
 session (Err e) = Err (e .0)
 
-abbrev pub request-of : Request Part → Request Placed
-request-of (ask.Open i) = ask.Open i
-request-of (ask.Close n) = ask.Close n
-request-of (ask.Data n p) = ask.Data n (part p)
+-- with another way to hold bodies
+abbrev pub map-request : {A B : Type 0} → (A → B) → Request A → Request B
+map-request f (ask.Open i) = ask.Open i
+map-request f (ask.Close n) = ask.Close n
+map-request f (ask.Data n a) = ask.Data n (f a)
 
 abbrev pub session-request : Result (Request Part) SessionFault → Result (Request Placed) Fault
-session-request (Ok r) = Ok (request-of r)
+session-request (Ok r) = Ok (map-request part r)
 session-request (Err e) = Err (e .0)
 
-abbrev pub reply-of : Reply Part → Reply Placed
-reply-of (say.Opened s i n) = say.Opened s i n
-reply-of (say.Closed s n) = say.Closed s n
-reply-of (say.Data n p) = say.Data n (part p)
+abbrev pub map-reply : {A B : Type 0} → (A → B) → Reply A → Reply B
+map-reply f (say.Opened s i n) = say.Opened s i n
+map-reply f (say.Closed s n) = say.Closed s n
+map-reply f (say.Data n a) = say.Data n (f a)
 
 abbrev pub session-reply : Result (Reply Part) SessionFault → Result (Reply Placed) Fault
-session-reply (Ok r) = Ok (reply-of r)
+session-reply (Ok r) = Ok (map-reply part r)
 session-reply (Err e) = Err (e .0)

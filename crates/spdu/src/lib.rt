@@ -1,15 +1,21 @@
 // Session units (SPDUs).
+ghost use denote.Ref.{now as behind};
 ghost use mathlib.Core.Path.{_≡_};
+ghost use Rattle.writer.specs.Writing.{laid, two as two-of};
+ghost use Rattle.spdu.specs.Replies.{write-reply};
 ghost use Rattle.cursor.specs.Reading.{start};
 ghost use Rattle.spdu.specs.Session.{numbered as numbered-of, request as request-of, opened as opened-of, closed as closed-of, reply as reply-of};
 ghost use Rattle.cursor.specs.Views.{place};
-ghost use Rattle.spdu.specs.Views.{session, session-request, session-reply};
+ghost use Rattle.spdu.specs.Views.{session, session-request, session-reply, map-reply};
 use cursor::Cursor;
 use cursor::Part;
 use cursor::Size;
 use cursor::fault::Fault;
 use cursor::fault::SessionFault;
 use cursor::fault::SessionFromLength;
+use writer::WriteFault;
+use writer::put;
+use writer::put_two;
 
 // Tags.
 pub const SESSION_NUMBER: u8 = 0x90;
@@ -125,6 +131,37 @@ impl<'a> SpduReader<'a> {
                 Ok(Reply::Data(number, self.cursor.rest()))
             }
             _ => Err(SessionFault(Fault::Tag)),
+        }
+    }
+}
+
+fn two(n: u16) -> [u8; 2]
+    ensures { λ r. ⌜ r ≡ two-of n ⌝ }
+{
+    [(n / 256) as u8, (n % 256) as u8]
+}
+
+// Writes a host's SPDU.
+pub fn write_reply(reply: Reply<&[u8]>, out: &mut [u8]) -> Result<usize, WriteFault>
+    ensures { λ r. ⌜ laid (write-reply (map-reply behind (reply .entry))) (now (out .entry)) ≡ (r, now (out .exit)) ⌝ }
+{
+    match reply {
+        Reply::Opened(status, identifier, number) => {
+            let [a, b] = two((identifier / 65536) as u16);
+            let [c, d] = two((identifier % 65536) as u16);
+            let [high, low] = two(number);
+            put(
+                &[&[OPEN_SESSION_RESPONSE, 7, status, a, b, c, d, high, low]],
+                out,
+            )
+        }
+        Reply::Closed(status, number) => {
+            let [high, low] = two(number);
+            put(&[&[CLOSE_SESSION_RESPONSE, 3, status, high, low]], out)
+        }
+        Reply::Data(number, bytes) => {
+            let [high, low] = two(number);
+            put_two(&[SESSION_NUMBER, 2, high, low], bytes, out)
         }
     }
 }

@@ -25,32 +25,33 @@ abbrev pub transport-part : Result Part TransportFault → Result Placed Fault
 transport-part (Ok p) = Ok (part p)
 transport-part (Err e) = Err (e .0)
 
-abbrev pub object-of : Object Part → Object Placed
-object-of obj.Nothing = obj.Nothing
-object-of obj.CreateReply = obj.CreateReply
-object-of obj.Delete = obj.Delete
-object-of obj.DeleteReply = obj.DeleteReply
-object-of obj.Request = obj.Request
-object-of (obj.Last p) = obj.Last (part p)
-object-of (obj.More p) = obj.More (part p)
+-- with another way to hold data
+abbrev pub map-object : {A B : Type 0} → (A → B) → Object A → Object B
+map-object f obj.Nothing = obj.Nothing
+map-object f obj.CreateReply = obj.CreateReply
+map-object f obj.Delete = obj.Delete
+map-object f obj.DeleteReply = obj.DeleteReply
+map-object f obj.Request = obj.Request
+map-object f (obj.Last a) = obj.Last (f a)
+map-object f (obj.More a) = obj.More (f a)
 
 abbrev pub transport-object : Result (Object Part) TransportFault → Result (Object Placed) Fault
-transport-object (Ok o) = Ok (object-of o)
+transport-object (Ok o) = Ok (map-object part o)
 transport-object (Err e) = Err (e .0)
 
 abbrev pub transport-response : Result (Response Part) TransportFault → Result (Response Placed) Fault
-transport-response (Ok r) = Ok (record { object = object-of (r .object); available = r .available })
+transport-response (Ok r) = Ok (record { object = map-object part (r .object); available = r .available })
 transport-response (Err e) = Err (e .0)
 
-abbrev pub command-of : Command Part → Command Placed
-command-of cmd.Create = cmd.Create
-command-of cmd.Delete = cmd.Delete
-command-of cmd.DeleteReply = cmd.DeleteReply
-command-of cmd.Receive = cmd.Receive
-command-of (cmd.Data p) = cmd.Data (part p)
-command-of (cmd.NewConnection c) = cmd.NewConnection c
-command-of (cmd.Error e) = cmd.Error e
+abbrev pub map-command : {A B : Type 0} → (A → B) → Command A → Command B
+map-command f cmd.Create = cmd.Create
+map-command f cmd.Delete = cmd.Delete
+map-command f cmd.DeleteReply = cmd.DeleteReply
+map-command f cmd.Receive = cmd.Receive
+map-command f (cmd.Data a) = cmd.Data (f a)
+map-command f (cmd.NewConnection c) = cmd.NewConnection c
+map-command f (cmd.Error e) = cmd.Error e
 
 abbrev pub transport-command : Result (Command Part) TransportFault → Result (Command Placed) Fault
-transport-command (Ok c) = Ok (command-of c)
+transport-command (Ok c) = Ok (map-command part c)
 transport-command (Err e) = Err (e .0)

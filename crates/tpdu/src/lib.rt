@@ -1,15 +1,20 @@
 // Transport units (TPDUs).
+ghost use denote.Ref.{now as behind};
 ghost use mathlib.Core.Path.{_≡_};
+ghost use Rattle.writer.specs.Writing.{laid-object};
+ghost use Rattle.tpdu.specs.Commands.{command-tag, command-body};
 ghost use Rattle.cursor.specs.Reading.{start};
 ghost use Rattle.tpdu.specs.Transport.{own as owned, bare as bared, data′ as data-of, object as object-of, status as status-of, response as response-of, one as one-of, order as ordered, command as command-of};
 ghost use Rattle.cursor.specs.Views.{place};
-ghost use Rattle.tpdu.specs.Views.{transport, transport-place, transport-part, transport-object, transport-response, transport-command};
+ghost use Rattle.tpdu.specs.Views.{transport, transport-place, transport-part, transport-object, transport-response, transport-command, map-command};
 use cursor::Cursor;
 use cursor::Part;
 use cursor::Size;
 use cursor::fault::Fault;
 use cursor::fault::TransportFault;
 use cursor::fault::TransportFromLength;
+use writer::WriteFault;
+use writer::write_object;
 
 // Tags.
 pub const SB: u8 = 0x80;
@@ -197,5 +202,20 @@ impl<'a> TpduReader<'a> {
     {
         let mut body = self.own(id, Size::Exactly(2))?;
         Ok(body.byte()?)
+    }
+}
+
+// Writes a host's TPDU on a connection.
+pub fn write_command(id: u8, command: Command<&[u8]>, out: &mut [u8]) -> Result<usize, WriteFault>
+    ensures { λ r. ⌜ laid-object (command-tag (command .entry)) (command-body id (map-command behind (command .entry))) (now (out .entry)) ≡ (r, now (out .exit)) ⌝ }
+{
+    match command {
+        Command::Create => write_object(CREATE_T_C, &[id], &[], out),
+        Command::Delete => write_object(DELETE_T_C, &[id], &[], out),
+        Command::DeleteReply => write_object(D_T_C_REPLY, &[id], &[], out),
+        Command::Receive => write_object(RCV, &[id], &[], out),
+        Command::Data(bytes) => write_object(T_DATA_LAST, &[id], bytes, out),
+        Command::NewConnection(c) => write_object(NEW_T_C, &[id, c], &[], out),
+        Command::Error(e) => write_object(T_C_ERROR, &[id, e], &[], out),
     }
 }

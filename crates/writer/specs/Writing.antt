@@ -7,7 +7,7 @@ use lib.ListN.{length, drop}
 use Rattle.std.specs.declared.result.Result.{Result}
 use Rattle.std.specs.declared.result.Result.the-variants.{Ok, Err}
 use Rattle.writer.specs.declared.WriteFault.{WriteFault}
-use Rattle.writer.specs.declared.WriteFault.the-variants.{Room}
+use Rattle.writer.specs.declared.WriteFault.the-variants.{Length, Room}
 
 -- a length in its shortest form
 abbrev pub write-length : ℕ → List ℕ
@@ -28,3 +28,7 @@ four n = two (n / 65536) ++ two (n % 65536)
 -- bytes written to the front of a slice, and how many; or, where they do not fit, the slice as it was
 abbrev pub laid : List ℕ → List ℕ → Result ℕ WriteFault × List ℕ
 laid bs out = cond (leb (length bs) (length out)) (Ok (length bs), bs ++ drop (length bs) out) (Err Room, out)
+
+-- an object written so, where two bytes can tell its length
+abbrev pub laid-object : ℕ → List ℕ → List ℕ → Result ℕ WriteFault × List ℕ
+laid-object tag body out = cond (ltb 0xffff (length body)) (Err Length, out) (laid (object tag body) out)
