@@ -1,10 +1,15 @@
 -- How a transport unit is cut into link units.
 use mathlib.Core.Bool.{cond}
 use mathlib.Core.List.{List, [], _∷_, _++_}
-use Prim.Native.Nat.{ℕ, zero, suc, _-_}
-use lib.Dec.{leb}
+use Prim.Native.Nat.{ℕ, zero, suc, _+_, _-_, _*_, _/_}
+use lib.Dec.{ltb, leb}
 use lib.ListN.{length, take, drop}
 use Rattle.std.specs.shelf.Lists.{joined}
+use Rattle.std.specs.declared.result.Result.{Result}
+use Rattle.std.specs.declared.result.Result.the-variants.{Err}
+use Rattle.writer.specs.declared.WriteFault.{WriteFault}
+use Rattle.writer.specs.declared.WriteFault.the-variants.{Size}
+use Rattle.writer.specs.Writing.{laid}
 use Rattle.lpdu.specs.Tags.{last, more}
 
 -- at most this many link units with at most so many bytes of the transport unit in each
@@ -22,3 +27,15 @@ lpdus id size bs = cut (length bs) id (size - 2) bs
 -- their bytes, one after another
 abbrev pub write-lpdus : ℕ → ℕ → List ℕ → List ℕ
 write-lpdus id size bs = joined (λ x. x) (lpdus id size bs)
+
+-- how many bytes the link units of n bytes take, with at most so many of these in each
+abbrev pub lpdus-length : ℕ → ℕ → ℕ
+lpdus-length n most = n + 2 * ((n - 1) / most + 1)
+
+-- what a slice holds after bytes were written from a place on
+abbrev pub behind : ℕ → List ℕ → List ℕ → List ℕ
+behind at xs out = take at out ++ (xs ++ drop (at + length xs) out)
+
+-- these written to the front of a slice, where the size leaves room for a fragment
+abbrev pub laid-lpdus : ℕ → ℕ → List ℕ → List ℕ → Result ℕ WriteFault × List ℕ
+laid-lpdus id size bs out = cond (ltb size 3) (Err Size, out) (laid (write-lpdus id size bs) out)

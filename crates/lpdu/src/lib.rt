@@ -1,5 +1,10 @@
 // Link units (LPDUs).
 ghost use mathlib.Core.Path.{_≡_};
+ghost use mathlib.Core.List.{_∷_};
+ghost use Prim.Native.Nat.{_+_, _≤_};
+ghost use lib.Dec.{leb};
+ghost use lib.ListN.{length};
+ghost use Rattle.lpdu.specs.Fragments.{laid-lpdus, lpdus-length, behind};
 ghost use Rattle.cursor.specs.Reading.{start};
 ghost use Rattle.lpdu.specs.Link.{mark as mark-of, fragment as fragment-of};
 ghost use Rattle.cursor.specs.Views.{place};
@@ -8,6 +13,8 @@ use cursor::Cursor;
 use cursor::Part;
 use cursor::fault::LinkFault;
 use cursor::fault::LinkFromLength;
+use writer::WriteFault;
+use writer::put_two;
 
 // Tags.
 pub const LAST: u8 = 0x00;
@@ -66,4 +73,47 @@ impl<'a> LpduReader<'a> {
             bytes: self.cursor.rest(),
         })
     }
+}
+
+// Whether the LPDUs of a TPDU of n bytes, with at most so many of these in each, fit into so much room.
+fn fits(n: usize, most: usize, room: usize) -> bool
+    requires { ⌜ 1 ≤ n ⌝ ∗ ⌜ 1 ≤ most ⌝ }
+    ensures { λ r. ⌜ r ≡ leb (lpdus-length n most) room ⌝ }
+{
+    let count = (n - 1) / most + 1;
+    n <= room && count <= (room - n) / 2
+}
+
+// Writes one LPDU from a place on.
+fn put_lpdu(id: u8, mark: u8, fragment: &[u8], out: &mut [u8], at: usize)
+    requires { ⌜ at + length (id ∷ mark ∷ now fragment) ≤ length (now out) ⌝ }
+    ensures { λ _. ⌜ now (out .exit) ≡ behind at (id ∷ mark ∷ now (fragment .entry)) (now (out .entry)) ⌝ }
+{
+    let _ = put_two(&[id, mark], fragment, &mut out[at..]);
+}
+
+// Writes a TPDU as LPDUs, of which all but the last have the agreed size.
+pub fn write_lpdus(id: u8, size: u16, tpdu: &[u8], out: &mut [u8]) -> Result<usize, WriteFault>
+    ensures { λ r. ⌜ laid-lpdus id size (now (tpdu .entry)) (now (out .entry)) ≡ (r, now (out .exit)) ⌝ }
+{
+    if size < 3 {
+        return Err(WriteFault::Size);
+    }
+    let n = tpdu.len();
+    if n == 0 {
+        return Ok(0);
+    }
+    let most = size as usize - 2;
+    if !fits(n, most, out.len()) {
+        return Err(WriteFault::Room);
+    }
+    let mut from = 0;
+    let mut at = 0;
+    while n - from > most {
+        put_lpdu(id, MORE, &tpdu[from..from + most], out, at);
+        from += most;
+        at += most + 2;
+    }
+    put_lpdu(id, LAST, &tpdu[from..n], out, at);
+    Ok(at + 2 + (n - from))
 }
