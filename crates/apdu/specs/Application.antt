@@ -12,15 +12,15 @@ use Rattle.apdu.specs.declared.Apdu.{Apdu}
 use Rattle.cursor.specs.Reading.{Place, Placed, start, then, past, field, rest, finish}
 use Rattle.apdu.specs.Tags.{apdu}
 
-abbrev third : ℕ → List ℕ → Place → Result ℕ Fault × Place
+abbrev pub third : ℕ → List ℕ → Place → Result ℕ Fault × Place
 third b [] p = (Err Length, p)
 third b (c ∷ bs) p = cond (ltb c 0x80) (Ok (0x9f0000 + b * 256 + c), past bs p) (Err Tag, p)
 
-abbrev second : List ℕ → Place → Result ℕ Fault × Place
+abbrev pub second : List ℕ → Place → Result ℕ Fault × Place
 second [] p = (Err Length, p)
 second (b ∷ bs) p = cond (leb 0x80 b) (third b bs p) (Err Tag, p)
 
-abbrev first : List ℕ → Place → Result ℕ Fault × Place
+abbrev pub first : List ℕ → Place → Result ℕ Fault × Place
 first [] p = (Err Length, p)
 first (a ∷ bs) p = cond (eqb a apdu) (second bs p) (Err Tag, p)
 

@@ -31,7 +31,7 @@ go-on (Err e) p f = (Err e, p)
 abbrev pub then : {A B : Type 0} → Result A Fault × Place → (A → Place → Result B Fault × Place) → Result B Fault × Place
 then s f = go-on (s .0) (s .1) f
 
-abbrev byte-of : List ℕ → Place → Result ℕ Fault × Place
+abbrev pub byte-of : List ℕ → Place → Result ℕ Fault × Place
 byte-of [] p = (Err Length, p)
 byte-of (b ∷ bs) p = (Ok b, past bs p)
 
@@ -85,7 +85,7 @@ pub record Placed : Type 0 where
 abbrev pub rest : Place → Placed
 rest p = record { offset = p .end - length (p .left); bytes = p .left }
 
-abbrev nothing : List ℕ → Result (Unit {0}) Fault
+abbrev pub nothing : List ℕ → Result (Unit {0}) Fault
 nothing [] = Ok tt
 nothing (b ∷ bs) = Err Length
 

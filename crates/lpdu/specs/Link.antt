@@ -17,15 +17,15 @@ use Rattle.lpdu.specs.Tags.{last, more}
 abbrev pub mark : ℕ → Result Bool LinkFault
 mark m = cond (eqb m last) (Ok false) (cond (eqb m more) (Ok true) (Err Mark))
 
-abbrev marked : Result Bool LinkFault → Place → Result (Fragment Placed) LinkFault
+abbrev pub marked : Result Bool LinkFault → Place → Result (Fragment Placed) LinkFault
 marked (Ok goes-on) p = Ok (record { more = goes-on; bytes = rest p })
 marked (Err e) p = Err e
 
-abbrev after-mark : Result ℕ Fault → Place → Result (Fragment Placed) LinkFault
+abbrev pub after-mark : Result ℕ Fault → Place → Result (Fragment Placed) LinkFault
 after-mark (Ok m) p = marked (mark m) p
 after-mark (Err e) p = Err Short
 
-abbrev after-connection : ℕ → Result ℕ Fault → Place → Result (Fragment Placed) LinkFault
+abbrev pub after-connection : ℕ → Result ℕ Fault → Place → Result (Fragment Placed) LinkFault
 after-connection id (Ok c) p = cond (eqb c id) (after-mark (byte p .0) (byte p .1)) (Err Connection)
 after-connection id (Err e) p = Err Short
 

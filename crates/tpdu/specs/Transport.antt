@@ -18,7 +18,7 @@ use Rattle.cursor.specs.Reading.{Place, Placed, start, then, byte, field, rest,
 use Rattle.tpdu.specs.Tags.{sb, rcv, create-t-c, c-t-c-reply, delete-t-c, d-t-c-reply, request-t-c, new-t-c, t-c-error, t-data-last, t-data-more}
 
 -- the bytes after a first one that is the connection
-abbrev after-id : ℕ → Result ℕ Fault → Place → Result Place Fault
+abbrev pub after-id : ℕ → Result ℕ Fault → Place → Result Place Fault
 after-id id (Ok i) p = cond (eqb i id) (Ok p) (Err Content)
 after-id id (Err e) p = Err e
 

@@ -1,0 +1,3 @@
+mod Inside
+mod Reading-back
+mod Worked
