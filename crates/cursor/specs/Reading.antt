@@ -4,6 +4,8 @@ use mathlib.Core.List.{List, [], _∷_}
 use Prim.Native.Nat.{ℕ, _+_, _-_, _*_}
 use lib.Dec.{eqb, ltb, leb}
 use lib.ListN.{length, take, drop}
+use Rattle.std.specs.declared.option.Option.{Option}
+use Rattle.std.specs.declared.option.Option.the-variants.{Some, None}
 use Rattle.std.specs.declared.result.Result.{Result}
 use Rattle.std.specs.declared.result.Result.the-variants.{Ok, Err}
 use Rattle.cursor.specs.declared.fault.Fault.{Fault}
@@ -31,13 +33,18 @@ go-on (Err e) p f = (Err e, p)
 abbrev pub then : {A B : Type 0} → Result A Fault × Place → (A → Place → Result B Fault × Place) → Result B Fault × Place
 then s f = go-on (s .0) (s .1) f
 
-abbrev pub byte-of : List ℕ → Place → Result ℕ Fault × Place
-byte-of [] p = (Err Length, p)
-byte-of (b ∷ bs) p = (Ok b, past bs p)
+-- the first byte and those after it
+abbrev pub first : List ℕ → Option (ℕ × List ℕ)
+first [] = None
+first (b ∷ bs) = Some (b, bs)
+
+abbrev pub byte-of : Option (ℕ × List ℕ) → Place → Result ℕ Fault × Place
+byte-of None p = (Err Length, p)
+byte-of (Some x) p = (Ok (x .0), past (x .1) p)
 
 -- the next byte
 abbrev pub byte : Place → Result ℕ Fault × Place
-byte p = byte-of (p .left) p
+byte p = byte-of (first (p .left)) p
 
 -- two bytes, the high one first
 abbrev pub number : Place → Result ℕ Fault × Place
@@ -63,6 +70,10 @@ admits (AtLeast least) n = leb least n
 -- the next n bytes as a place of their own
 abbrev pub part-of : ℕ → Place → Place
 part-of n p = record { left = take n (p .left); end = p .end - (length (p .left) - n) }
+
+-- the next n bytes, and the place after them
+abbrev pub split : ℕ → Place → Place × Place
+split n p = (part-of n p, past (drop n (p .left)) p)
 
 -- a length that is allowed, and that many bytes
 abbrev pub field : Size → Place → Result Place Fault × Place

@@ -1,7 +1,9 @@
 -- What the readers' values say, with what their references point to.
 use mathlib.Core.List.{List}
 use Prim.Native.Nat.{ℕ}
-use denote.Ref.{now}
+use denote.Ref.{RefT, now}
+use Rattle.std.specs.declared.option.Option.{Option}
+use Rattle.std.specs.declared.option.Option.the-variants.{Some, None}
 use Rattle.std.specs.declared.result.Result.{Result}
 use Rattle.std.specs.declared.result.Result.the-variants.{Ok, Err}
 use Rattle.cursor.specs.declared.fault.Fault.{Fault}
@@ -26,3 +28,7 @@ read (Err e) = Err Length
 abbrev pub read-place : Result Cursor LengthFault → Result Place Fault
 read-place (Ok c) = Ok (place c)
 read-place (Err e) = Err Length
+
+abbrev pub first-view : Option (ℕ × RefT (List ℕ)) → Option (ℕ × List ℕ)
+first-view None = None
+first-view (Some x) = Some (x .0, now (x .1))

@@ -1,7 +1,9 @@
 // Reading forward over the bytes of a unit: a cursor, the parts that it hands out, and the faults of each layer.
 ghost use mathlib.Core.Path.{_≡_};
-ghost use Rattle.cursor.specs.Reading.{start, byte as byte-of, finish as finished, number as number-of, word as word-of, length-field, field as field-of, admits as admitted, rest as rest-of};
-ghost use Rattle.cursor.specs.Views.{place, read, read-place, part};
+ghost use Prim.Native.Nat.{_≤_};
+ghost use lib.ListN.{length};
+ghost use Rattle.cursor.specs.Reading.{start, byte as byte-of, finish as finished, number as number-of, word as word-of, length-field, field as field-of, admits as admitted, rest as rest-of, split, first as first-of};
+ghost use Rattle.cursor.specs.Views.{place, read, read-place, part, first-view};
 use crate::fault::LengthFault;
 
 pub mod fault;
@@ -38,6 +40,16 @@ pub struct Cursor<'a> {
     pub end: usize,
 }
 
+// The first byte and those after it.
+fn first(bytes: &[u8]) -> Option<(u8, &[u8])>
+    ensures { λ r. ⌜ first-view r ≡ first-of (now (bytes .entry)) ⌝ }
+{
+    match bytes {
+        [b, rest @ ..] => Some((*b, rest)),
+        [] => None,
+    }
+}
+
 impl<'a> Cursor<'a> {
     pub fn new(bytes: &'a [u8]) -> Cursor<'a>
         ensures { λ r. ⌜ place r ≡ start (now (bytes .entry)) ⌝ }
@@ -51,14 +63,11 @@ impl<'a> Cursor<'a> {
     pub fn byte(&mut self) -> Result<u8, LengthFault>
         ensures { λ r. ⌜ byte-of (place (now (self .entry))) ≡ (read r, place (now (self .exit))) ⌝ }
     {
-        let left = self.left;
-        match left {
-            [b, rest @ ..] => {
-                self.left = rest;
-                Ok(*b)
-            }
-            [] => Err(LengthFault),
-        }
+        let Some((b, rest)) = first(self.left) else {
+            return Err(LengthFault);
+        };
+        self.left = rest;
+        Ok(b)
     }
 
     // Two bytes, the high one first.
@@ -91,20 +100,28 @@ impl<'a> Cursor<'a> {
         }
     }
 
+    // The next n bytes as a cursor of their own.
+    fn take(&mut self, n: usize) -> Cursor<'a>
+        requires { ⌜ n ≤ length (now (now self .left)) ⌝ }
+        ensures { λ r. ⌜ split n (place (now (self .entry))) ≡ (place r, place (now (self .exit))) ⌝ }
+    {
+        let left = self.left;
+        self.left = &left[n..];
+        Cursor {
+            left: &left[0..n],
+            end: self.end.saturating_sub(left.len() - n),
+        }
+    }
+
     // A length field and that many bytes, which are handed out as a cursor of their own.
     pub fn field(&mut self, size: Size) -> Result<Cursor<'a>, LengthFault>
         ensures { λ r. ⌜ field-of size (place (now (self .entry))) ≡ (read-place r, place (now (self .exit))) ⌝ }
     {
         let n = self.length()?;
-        let left = self.left;
-        if !size.admits(n) || n > left.len() {
+        if !size.admits(n) || n > self.left.len() {
             return Err(LengthFault);
         }
-        self.left = &left[n..];
-        Ok(Cursor {
-            left: &left[0..n],
-            end: self.end.saturating_sub(left.len() - n),
-        })
+        Ok(self.take(n))
     }
 
     // All that is left.

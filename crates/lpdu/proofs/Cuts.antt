@@ -11,11 +11,11 @@ use Rattle.std.specs.shelf.Lists.{joined}
 use Rattle.std.proofs.shelf.Lists.{append-nil, length-append, length-drop, length-take-le, drop-drop, take-rest}
 use Rattle.std.proofs.shelf.Tests.{le-leb, lt-leb, leb-true, leb-false}
 use Rattle.lpdu.specs.Tags.{last, more}
-use Rattle.lpdu.specs.Fragments.{cut, lpdus-length}
+use Rattle.lpdu.specs.Fragments.{cut, cut-bytes}
 
--- the bytes of the link units of a transport unit, with at most so many of its bytes in each
-abbrev pub cut-bytes : ℕ → ℕ → List ℕ → List ℕ
-cut-bytes id most bs = joined (λ x. x) (cut (length bs) id most bs)
+-- how many bytes the link units of n bytes take, with at most so many of these in each
+abbrev lpdus-length : ℕ → ℕ → ℕ
+lpdus-length n most = n + 2 * ((n - 1) / most + 1)
 
 -- any bound that is not below the unit's length does
 pub any-bound : (k l id most : ℕ) (bs : List ℕ) → 1 ≤ most → 1 ≤ length bs → length bs ≤ k → length bs ≤ l → cut k id most bs ≡ cut l id most bs
@@ -79,11 +79,6 @@ next-last id most from bs lt le =
     cut-last id most (drop from bs) (omega arith) (omega arith)
     ∙ ap (λ xs. id ∷ last ∷ xs) (sym (take-rest bs from) ∙ sym (append-nil (take (length bs - from) (drop from bs))))
 
--- all link units fit into what is found to have room for them
-pub room-for : (id most room : ℕ) (bs : List ℕ) → 1 ≤ most → 1 ≤ length bs → true ≡ leb (lpdus-length (length bs) most) room → length (cut-bytes id most bs) ≤ room
-room-for id most room bs m n fits =
-    omega (arith, length-cut (length bs) id most bs m n (omega arith), leb-true (lpdus-length (length bs) most) room (sym fits))
-
-pub no-room-for : (id most room : ℕ) (bs : List ℕ) → 1 ≤ most → 1 ≤ length bs → false ≡ leb (lpdus-length (length bs) most) room → room < length (cut-bytes id most bs)
-no-room-for id most room bs m n fits =
-    omega (arith, length-cut (length bs) id most bs m n (omega arith), leb-false (lpdus-length (length bs) most) room (sym fits))
+-- whether they fit, told by their number
+pub room-by-count : (id most room : ℕ) (bs : List ℕ) → 1 ≤ most → 1 ≤ length bs → leb (length (cut-bytes id most bs)) room ≡ leb (length bs + 2 * ((length bs - 1) / most + 1)) room
+room-by-count id most room bs m n = ap (λ k. leb k room) (length-cut (length bs) id most bs m n (omega arith))

@@ -1,7 +1,7 @@
 -- How a transport unit is cut into link units.
 use mathlib.Core.Bool.{cond}
 use mathlib.Core.List.{List, [], _∷_, _++_}
-use Prim.Native.Nat.{ℕ, zero, suc, _+_, _-_, _*_, _/_}
+use Prim.Native.Nat.{ℕ, zero, suc, _+_, _-_}
 use lib.Dec.{ltb, leb}
 use lib.ListN.{length, take, drop}
 use Rattle.std.specs.shelf.Lists.{joined}
@@ -24,13 +24,12 @@ cut (suc k) id most bs =
 abbrev pub lpdus : ℕ → ℕ → List ℕ → List (List ℕ)
 lpdus id size bs = cut (length bs) id (size - 2) bs
 
--- their bytes, one after another
-abbrev pub write-lpdus : ℕ → ℕ → List ℕ → List ℕ
-write-lpdus id size bs = joined (λ x. x) (lpdus id size bs)
+-- the bytes of such link units, one after another
+abbrev pub cut-bytes : ℕ → ℕ → List ℕ → List ℕ
+cut-bytes id most bs = joined (λ x. x) (cut (length bs) id most bs)
 
--- how many bytes the link units of n bytes take, with at most so many of these in each
-abbrev pub lpdus-length : ℕ → ℕ → ℕ
-lpdus-length n most = n + 2 * ((n - 1) / most + 1)
+abbrev pub write-lpdus : ℕ → ℕ → List ℕ → List ℕ
+write-lpdus id size bs = cut-bytes id (size - 2) bs
 
 -- what a slice holds after bytes were written from a place on
 abbrev pub behind : ℕ → List ℕ → List ℕ → List ℕ

@@ -1,10 +1,13 @@
 // Link units (LPDUs).
 ghost use mathlib.Core.Path.{_≡_};
+ghost use mathlib.Core.Bool.{true};
 ghost use mathlib.Core.List.{_∷_};
-ghost use Prim.Native.Nat.{_+_, _≤_};
+ghost use Rattle.std.specs.declared.result.Result.the-variants.{Ok};
+ghost use Rattle.writer.specs.Writing.{laid};
+ghost use Prim.Native.Nat.{_+_, _-_, _*_, _/_, _≤_};
 ghost use lib.Dec.{leb};
 ghost use lib.ListN.{length};
-ghost use Rattle.lpdu.specs.Fragments.{laid-lpdus, lpdus-length, behind};
+ghost use Rattle.lpdu.specs.Fragments.{laid-lpdus, cut-bytes, behind};
 ghost use Rattle.cursor.specs.Reading.{start};
 ghost use Rattle.lpdu.specs.Link.{mark as mark-of, fragment as fragment-of};
 ghost use Rattle.cursor.specs.Views.{place};
@@ -75,13 +78,22 @@ impl<'a> LpduReader<'a> {
     }
 }
 
-// Whether the LPDUs of a TPDU of n bytes, with at most so many of these in each, fit into so much room.
-fn fits(n: usize, most: usize, room: usize) -> bool
+// Whether n bytes, with two more for each LPDU of at most so many of them, fit into so much room.
+fn counted(n: usize, most: usize, room: usize) -> bool
     requires { ⌜ 1 ≤ n ⌝ ∗ ⌜ 1 ≤ most ⌝ }
-    ensures { λ r. ⌜ r ≡ leb (lpdus-length n most) room ⌝ }
+    ensures { λ r. ⌜ r ≡ leb (n + 2 * ((n - 1) / most + 1)) room ⌝ }
 {
     let count = (n - 1) / most + 1;
     n <= room && count <= (room - n) / 2
+}
+
+// Whether the LPDUs of a TPDU, with at most so many of its bytes in each, fit into so much room.
+fn fits(id: u8, most: usize, tpdu: &[u8], room: usize) -> bool
+    requires bytes { ⌜ 1 ≤ length (now tpdu) ⌝ }
+    requires most { ⌜ 1 ≤ most ⌝ }
+    ensures { λ r. ⌜ r ≡ leb (length (cut-bytes id most (now (tpdu .entry)))) room ⌝ }
+{
+    counted(tpdu.len(), most, room)
 }
 
 // Writes one LPDU from a place on.
@@ -92,21 +104,14 @@ fn put_lpdu(id: u8, mark: u8, fragment: &[u8], out: &mut [u8], at: usize)
     let _ = put_two(&[id, mark], fragment, &mut out[at..]);
 }
 
-// Writes a TPDU as LPDUs, of which all but the last have the agreed size.
-pub fn write_lpdus(id: u8, size: u16, tpdu: &[u8], out: &mut [u8]) -> Result<usize, WriteFault>
-    ensures { λ r. ⌜ laid-lpdus id size (now (tpdu .entry)) (now (out .entry)) ≡ (r, now (out .exit)) ⌝ }
+// Writes the LPDUs, with at most so many bytes of the TPDU in each, and counts their bytes.
+fn put_lpdus(id: u8, most: usize, tpdu: &[u8], out: &mut [u8]) -> usize
+    requires bytes { ⌜ 1 ≤ length (now tpdu) ⌝ }
+    requires most { ⌜ 1 ≤ most ⌝ }
+    requires room { ⌜ true ≡ leb (length (cut-bytes id most (now tpdu))) (length (now out)) ⌝ }
+    ensures { λ r. ⌜ laid (cut-bytes id most (now (tpdu .entry))) (now (out .entry)) ≡ (Ok r, now (out .exit)) ⌝ }
 {
-    if size < 3 {
-        return Err(WriteFault::Size);
-    }
     let n = tpdu.len();
-    if n == 0 {
-        return Ok(0);
-    }
-    let most = size as usize - 2;
-    if !fits(n, most, out.len()) {
-        return Err(WriteFault::Room);
-    }
     let mut from = 0;
     let mut at = 0;
     while n - from > most {
@@ -115,5 +120,22 @@ pub fn write_lpdus(id: u8, size: u16, tpdu: &[u8], out: &mut [u8]) -> Result<usi
         at += most + 2;
     }
     put_lpdu(id, LAST, &tpdu[from..n], out, at);
-    Ok(at + 2 + (n - from))
+    at + 2 + (n - from)
+}
+
+// Writes a TPDU as LPDUs, of which all but the last have the agreed size.
+pub fn write_lpdus(id: u8, size: u16, tpdu: &[u8], out: &mut [u8]) -> Result<usize, WriteFault>
+    ensures { λ r. ⌜ laid-lpdus id size (now (tpdu .entry)) (now (out .entry)) ≡ (r, now (out .exit)) ⌝ }
+{
+    if size < 3 {
+        return Err(WriteFault::Size);
+    }
+    if tpdu.len() == 0 {
+        return Ok(0);
+    }
+    let most = size as usize - 2;
+    if !fits(id, most, tpdu, out.len()) {
+        return Err(WriteFault::Room);
+    }
+    Ok(put_lpdus(id, most, tpdu, out))
 }

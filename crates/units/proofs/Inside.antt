@@ -16,7 +16,7 @@ use Rattle.cursor.specs.declared.fault.LinkFault.{LinkFault}
 use Rattle.cursor.specs.declared.fault.LinkFault.the-variants.{Short, Long, Connection}
 use Rattle.cursor.specs.declared.Size.{Size}
 use Rattle.cursor.specs.declared.Size.the-variants.{Exactly, AtLeast}
-use Rattle.cursor.specs.Reading.{Place, Placed, start, past, go-on, then, byte-of, byte, number, word, length-field, admits, part-of, field, within, rest, nothing, finish}
+use Rattle.cursor.specs.Reading.{Place, Placed, start, past, go-on, then, first, byte-of, byte, number, word, length-field, admits, part-of, field, within, rest, nothing, finish}
 use Rattle.lpdu.specs.declared.Fragment.{Fragment}
 use Rattle.lpdu.specs.Link.{mark, marked, after-mark, after-connection, fragment, read-fragment}
 use Rattle.tpdu.specs.declared.Object.{Object}
@@ -115,7 +115,7 @@ module _ (bs : List ℕ) where
   byte-safe : (p : Place) → In p → Safe Any (byte p)
   byte-safe p i = go (p .left) refl
     where
-      go : (xs : List ℕ) → p .left ≡ xs → Safe Any (byte-of xs p)
+      go : (xs : List ℕ) → p .left ≡ xs → Safe Any (byte-of (first xs) p)
       go [] e = read-err Length p i
       go (x ∷ xs) e = read-ok x (past xs p) tt (in-after p 1 xs (ap (drop 1) e) (omega (arith, ap length e)) i)
 

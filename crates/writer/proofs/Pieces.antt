@@ -9,8 +9,6 @@ use lib.ListN.{length, take, drop, getD}
 use mathlib.Core.Bool.{true}
 use borrow.Rule.Slice.PartMut.{putMid}
 use Rattle.std.proofs.shelf.Tests.{leb-true}
-use Rattle.std.specs.declared.result.Result.the-variants.{Ok}
-use Rattle.writer.specs.Writing.{laid}
 use Rattle.std.specs.shelf.Lists.{joined}
 use Rattle.std.proofs.shelf.Lists.{append-assoc, length-append, length-drop, take-more, take-append-drop, joined-more, take-at, drop-drop, drop-at}
 
@@ -43,7 +41,3 @@ more-written pre ys out now-out at n k e m same fits is =
 pub next-fits : {X A : Type 0} (f : X → List A) (xs : List X) (i at room : ℕ) (d : X) → i < length xs → at ≡ length (joined f (take i xs)) → true ≡ leb (length (joined f xs)) room → at + length (f (getD xs i d)) ≤ room
 next-fits f xs i at room d lt e all =
     omega (arith, length-next f xs i d lt, length-passed f xs (i + 1), leb-true (length (joined f xs)) room (sym all))
-
--- bytes that fit, all of them written
-pub laid-all : (bs out after : List ℕ) (at : ℕ) → true ≡ leb (length bs) (length out) → at ≡ length bs → after ≡ bs ++ drop at out → laid bs out ≡ (Ok at, after)
-laid-all bs out after at fits e is = rw (← fits, is, e)

@@ -4,6 +4,8 @@ use mathlib.Core.List.{List, [], _∷_, _++_}
 use Prim.Native.Nat.{ℕ, _/_, _%_}
 use lib.Dec.{ltb, leb}
 use lib.ListN.{length, drop}
+use Rattle.std.specs.declared.option.Option.{Option}
+use Rattle.std.specs.declared.option.Option.the-variants.{Some, None}
 use Rattle.std.specs.declared.result.Result.{Result}
 use Rattle.std.specs.declared.result.Result.the-variants.{Ok, Err}
 use Rattle.writer.specs.declared.WriteFault.{WriteFault}
@@ -29,6 +31,15 @@ four n = two (n / 65536) ++ two (n % 65536)
 abbrev pub laid : List ℕ → List ℕ → Result ℕ WriteFault × List ℕ
 laid bs out = cond (leb (length bs) (length out)) (Ok (length bs), bs ++ drop (length bs) out) (Err Room, out)
 
+-- a length, where two bytes can tell it
+abbrev pub told : ℕ → Option ℕ
+told n = cond (ltb 0xffff n) None (Some n)
+
+-- the object with this length field, or none, written to the front of a slice
+abbrev pub laid-with : Option ℕ → ℕ → List ℕ → List ℕ → Result ℕ WriteFault × List ℕ
+laid-with None tag body out = (Err Length, out)
+laid-with (Some n) tag body out = laid (tag ∷ write-length n ++ body) out
+
 -- an object written so, where two bytes can tell its length
 abbrev pub laid-object : ℕ → List ℕ → List ℕ → Result ℕ WriteFault × List ℕ
-laid-object tag body out = cond (ltb 0xffff (length body)) (Err Length, out) (laid (object tag body) out)
+laid-object tag body out = laid-with (told (length body)) tag body out

@@ -1,11 +1,12 @@
 // Writing units into a caller's slice: all of the bytes, or none of them.
 ghost use denote.Ref.{now as behind};
 ghost use mathlib.Core.Path.{_≡_};
+ghost use mathlib.Core.Bool.{true};
 ghost use mathlib.Core.List.{_++_};
 ghost use lib.Dec.{leb};
-ghost use lib.ListN.{length};
+ghost use lib.ListN.{length, drop};
 ghost use Rattle.std.specs.shelf.Lists.{joined};
-ghost use Rattle.writer.specs.Writing.{laid, write-length, laid-object};
+ghost use Rattle.writer.specs.Writing.{laid, write-length, told, laid-object};
 ghost use Rattle.writer.specs.Fields.{field-bytes};
 
 // Why nothing was written.
@@ -33,6 +34,21 @@ fn fits(pieces: &[&[u8]], room: usize) -> bool
     true
 }
 
+// Copies the pieces one after another to the front of a slice, and counts their bytes.
+fn copy(pieces: &[&[u8]], out: &mut [u8]) -> usize
+    requires { ⌜ true ≡ leb (length (joined behind (now pieces))) (length (now out)) ⌝ }
+    ensures count { λ r. ⌜ r ≡ length (joined behind (now (pieces .entry))) ⌝ }
+    ensures bytes { λ _. ⌜ now (out .exit) ≡ joined behind (now (pieces .entry)) ++ drop (length (joined behind (now (pieces .entry)))) (now (out .entry)) ⌝ }
+{
+    let mut at = 0;
+    for piece in pieces {
+        let end = at + piece.len();
+        out[at..end].copy_from_slice(piece);
+        at = end;
+    }
+    at
+}
+
 // Puts the pieces one after another to the front of a slice, and answers how many bytes they are.
 pub fn put(pieces: &[&[u8]], out: &mut [u8]) -> Result<usize, WriteFault>
     ensures { λ r. ⌜ laid (joined behind (now (pieces .entry))) (now (out .entry)) ≡ (r, now (out .exit)) ⌝ }
@@ -40,13 +56,7 @@ pub fn put(pieces: &[&[u8]], out: &mut [u8]) -> Result<usize, WriteFault>
     if !fits(pieces, out.len()) {
         return Err(WriteFault::Room);
     }
-    let mut at = 0;
-    for piece in pieces {
-        let end = at + piece.len();
-        out[at..end].copy_from_slice(piece);
-        at = end;
-    }
-    Ok(at)
+    Ok(copy(pieces, out))
 }
 
 // Two pieces of one lifetime.
@@ -110,16 +120,24 @@ fn put_field<'a>(
     put(&[tag, length, head, body], out)
 }
 
+// How many bytes two parts have together, where two bytes can tell it.
+fn total(head: &[u8], body: &[u8]) -> Option<u16>
+    ensures { λ r. ⌜ r ≡ told (length (now (head .entry) ++ now (body .entry))) ⌝ }
+{
+    let n = head.len().checked_add(body.len())?;
+    if n > 0xFFFF {
+        return None;
+    }
+    Some(n as u16)
+}
+
 // Writes a tag, a length and that many bytes, which are given in two parts.
 pub fn write_object(tag: u8, head: &[u8], body: &[u8], out: &mut [u8]) -> Result<usize, WriteFault>
     ensures { λ r. ⌜ laid-object tag (now (head .entry) ++ now (body .entry)) (now (out .entry)) ≡ (r, now (out .exit)) ⌝ }
 {
-    let Some(n) = head.len().checked_add(body.len()) else {
+    let Some(n) = total(head, body) else {
         return Err(WriteFault::Length);
     };
-    if n > 0xFFFF {
-        return Err(WriteFault::Length);
-    }
-    let length = LengthField::shortest(n as u16);
+    let length = LengthField::shortest(n);
     put_field(&[tag], length.bytes(), head, body, out)
 }

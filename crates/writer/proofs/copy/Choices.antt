@@ -3,7 +3,7 @@ use mathlib.Core.List.{_++_}
 use lib.ListN.{length, take, drop}
 use denote.Ref.{now}
 use Rattle.std.specs.shelf.Lists.{joined}
-use Rattle.writer.proofs.put.Given as given
+use Rattle.writer.proofs.copy.Given as given
 
 -- the pieces so far stand at the front of the slice
 abbrev pub Inv-loop-piece : given.InvT-loop-piece
