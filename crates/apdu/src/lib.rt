@@ -11,8 +11,33 @@ use cursor::fault::Fault;
 use cursor::fault::ObjectFault;
 use cursor::fault::ObjectFromLength;
 
-// Tags.
+// The first byte of every tag.
 pub const APDU: u8 = 0x9F;
+
+// Tags of the objects of the public resources.
+pub const PROFILE_ENQUIRY: u32 = 0x9F8010;
+
+pub const PROFILE_REPLY: u32 = 0x9F8011;
+
+pub const PROFILE_CHANGED: u32 = 0x9F8012;
+
+pub const APPLICATION_INFO_ENQUIRY: u32 = 0x9F8020;
+
+pub const APPLICATION_INFO: u32 = 0x9F8021;
+
+pub const ENTER_MENU: u32 = 0x9F8022;
+
+pub const CA_INFO_ENQUIRY: u32 = 0x9F8030;
+
+pub const CA_INFO: u32 = 0x9F8031;
+
+pub const CA_PMT: u32 = 0x9F8032;
+
+pub const CA_PMT_REPLY: u32 = 0x9F8033;
+
+pub const DATE_TIME_ENQUIRY: u32 = 0x9F8440;
+
+pub const DATE_TIME: u32 = 0x9F8441;
 
 // An application object: its tag, three bytes as one number, and its body.
 #[derive(Clone, Copy)]

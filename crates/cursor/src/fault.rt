@@ -12,7 +12,7 @@ pub enum Fault {
 }
 
 // A length field that is malformed or not allowed, or bytes that are missing or over.
-#[derive(Clone, Copy, PartialEq, Eq, Debug)]
+#[derive(Clone, Copy)]
 pub struct LengthFault;
 
 #[derive(Clone, Copy, PartialEq, Eq, Debug)]
@@ -23,13 +23,13 @@ pub enum LinkFault {
     Mark,
 }
 
-#[derive(Clone, Copy, PartialEq, Eq, Debug)]
+#[derive(Clone, Copy)]
 pub struct TransportFault(pub Fault);
 
-#[derive(Clone, Copy, PartialEq, Eq, Debug)]
+#[derive(Clone, Copy)]
 pub struct SessionFault(pub Fault);
 
-#[derive(Clone, Copy, PartialEq, Eq, Debug)]
+#[derive(Clone, Copy)]
 pub struct ObjectFault(pub Fault);
 
 pub impl From<LengthFault> for LinkFault as LinkFromLength {

@@ -3,6 +3,8 @@ use mathlib.Core.Bool.{Bool, cond}
 use mathlib.Core.List.{List}
 use Prim.Native.Nat.{ℕ}
 use lib.Dec.{eqb, leb}
+use Rattle.std.specs.declared.option.Option.{Option}
+use Rattle.std.specs.declared.option.Option.the-variants.{Some, None}
 use Rattle.std.specs.declared.result.Result.{Result}
 use Rattle.std.specs.declared.result.Result.the-variants.{Ok, Err}
 use Rattle.cursor.specs.declared.fault.Fault.{Fault}
@@ -41,15 +43,25 @@ one id p = then (own id (Exactly 2) p) λ body q. (byte body .0, q)
 abbrev as′ : {A B : Type 0} → (A → B) → Result A Fault × Place → Result B Fault × Place
 as′ make s = then s λ a p. (Ok (make a), p)
 
+-- an object of a module that has nothing but the connection, by its tag
+abbrev pub bare-object : {A : Type 0} → ℕ → Option (Object A)
+bare-object tag =
+    cond (eqb tag c-t-c-reply) (Some obj.CreateReply)
+    (cond (eqb tag delete-t-c) (Some obj.Delete)
+    (cond (eqb tag d-t-c-reply) (Some obj.DeleteReply)
+    (cond (eqb tag request-t-c) (Some obj.Request)
+    None)))
+
+-- the named object with nothing but the connection; a tag that names none is at fault
+abbrev pub alone : {A : Type 0} → ℕ → Option A → Place → Result A Fault × Place
+alone id None p = (Err Tag, p)
+alone id (Some a) p = as′ (λ _. a) (bare id p)
+
 abbrev object-by : ℕ → ℕ → Place → Result (Object Placed) Fault × Place
 object-by id tag p =
-    cond (eqb tag c-t-c-reply) (as′ (λ _. obj.CreateReply) (bare id p))
-    (cond (eqb tag delete-t-c) (as′ (λ _. obj.Delete) (bare id p))
-    (cond (eqb tag d-t-c-reply) (as′ (λ _. obj.DeleteReply) (bare id p))
-    (cond (eqb tag request-t-c) (as′ (λ _. obj.Request) (bare id p))
-    (cond (eqb tag t-data-last) (as′ obj.Last (data′ id p))
+    cond (eqb tag t-data-last) (as′ obj.Last (data′ id p))
     (cond (eqb tag t-data-more) (as′ obj.More (data′ id p))
-    (Err Tag, p))))))
+    (alone id (bare-object tag) p))
 
 -- the object before the status, if any
 abbrev pub object : ℕ → Place → Result (Object Placed) Fault × Place
@@ -74,16 +86,21 @@ response id p =
 abbrev pub read-response : ℕ → List ℕ → Result (Response Placed) Fault
 read-response id bs = response id (start bs) .0
 
+-- a command that has nothing but the connection, by its tag
+abbrev pub bare-command : {A : Type 0} → ℕ → Option (Command A)
+bare-command tag =
+    cond (eqb tag create-t-c) (Some cmd.Create)
+    (cond (eqb tag delete-t-c) (Some cmd.Delete)
+    (cond (eqb tag d-t-c-reply) (Some cmd.DeleteReply)
+    (cond (eqb tag rcv) (Some cmd.Receive)
+    None)))
+
 abbrev order-by : ℕ → ℕ → Place → Result (Command Placed) Fault × Place
 order-by id tag p =
-    cond (eqb tag create-t-c) (as′ (λ _. cmd.Create) (bare id p))
-    (cond (eqb tag delete-t-c) (as′ (λ _. cmd.Delete) (bare id p))
-    (cond (eqb tag d-t-c-reply) (as′ (λ _. cmd.DeleteReply) (bare id p))
-    (cond (eqb tag rcv) (as′ (λ _. cmd.Receive) (bare id p))
-    (cond (eqb tag t-data-last) (as′ cmd.Data (data′ id p))
+    cond (eqb tag t-data-last) (as′ cmd.Data (data′ id p))
     (cond (eqb tag new-t-c) (as′ cmd.NewConnection (one id p))
     (cond (eqb tag t-c-error) (as′ cmd.Error (one id p))
-    (Err Tag, p)))))))
+    (alone id (bare-command tag) p)))
 
 -- the object of a host's unit
 abbrev pub order : ℕ → Place → Result (Command Placed) Fault × Place

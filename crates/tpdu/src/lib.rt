@@ -4,7 +4,7 @@ ghost use mathlib.Core.Path.{_≡_};
 ghost use Rattle.writer.specs.Writing.{laid-object};
 ghost use Rattle.tpdu.specs.Commands.{command-tag, command-body};
 ghost use Rattle.cursor.specs.Reading.{start};
-ghost use Rattle.tpdu.specs.Transport.{own as owned, bare as bared, data′ as data-of, object as object-of, status as status-of, response as response-of, one as one-of, order as ordered, command as command-of};
+ghost use Rattle.tpdu.specs.Transport.{own as owned, bare as bared, data′ as data-of, bare-object, bare-command, object as object-of, status as status-of, response as response-of, one as one-of, order as ordered, command as command-of};
 ghost use Rattle.cursor.specs.Views.{place};
 ghost use Rattle.tpdu.specs.Views.{transport, transport-place, transport-part, transport-object, transport-response, transport-command, map-command};
 use cursor::Cursor;
@@ -76,6 +76,32 @@ pub struct TpduReader<'a> {
     cursor: Cursor<'a>,
 }
 
+// An object of a module that has nothing but the connection, by its tag.
+fn bare_object<B>(tag: u8) -> Option<Object<B>>
+    ensures { λ r. ⌜ r ≡ bare-object tag ⌝ }
+{
+    match tag {
+        C_T_C_REPLY => Some(Object::CreateReply),
+        DELETE_T_C => Some(Object::Delete),
+        D_T_C_REPLY => Some(Object::DeleteReply),
+        REQUEST_T_C => Some(Object::Request),
+        _ => None,
+    }
+}
+
+// A command that has nothing but the connection, by its tag.
+fn bare_command<B>(tag: u8) -> Option<Command<B>>
+    ensures { λ r. ⌜ r ≡ bare-command tag ⌝ }
+{
+    match tag {
+        CREATE_T_C => Some(Command::Create),
+        DELETE_T_C => Some(Command::Delete),
+        D_T_C_REPLY => Some(Command::DeleteReply),
+        RCV => Some(Command::Receive),
+        _ => None,
+    }
+}
+
 impl<'a> TpduReader<'a> {
     pub fn new(bytes: &'a [u8]) -> TpduReader<'a>
         ensures { λ r. ⌜ place (r .cursor) ≡ start (now (bytes .entry)) ⌝ }
@@ -119,25 +145,15 @@ impl<'a> TpduReader<'a> {
                 self.cursor = start;
                 Ok(Object::Nothing)
             }
-            C_T_C_REPLY => {
-                self.bare(id)?;
-                Ok(Object::CreateReply)
-            }
-            DELETE_T_C => {
-                self.bare(id)?;
-                Ok(Object::Delete)
-            }
-            D_T_C_REPLY => {
-                self.bare(id)?;
-                Ok(Object::DeleteReply)
-            }
-            REQUEST_T_C => {
-                self.bare(id)?;
-                Ok(Object::Request)
-            }
             T_DATA_LAST => Ok(Object::Last(self.data(id)?)),
             T_DATA_MORE => Ok(Object::More(self.data(id)?)),
-            _ => Err(TransportFault(Fault::Tag)),
+            tag => {
+                let Some(object) = bare_object(tag) else {
+                    return Err(TransportFault(Fault::Tag));
+                };
+                self.bare(id)?;
+                Ok(object)
+            }
         }
     }
 
@@ -173,26 +189,16 @@ impl<'a> TpduReader<'a> {
         ensures { λ r. ⌜ ordered id (place (now (self .entry) .cursor)) ≡ (transport-command r, place (now (self .exit) .cursor)) ⌝ }
     {
         match self.cursor.byte()? {
-            CREATE_T_C => {
-                self.bare(id)?;
-                Ok(Command::Create)
-            }
-            DELETE_T_C => {
-                self.bare(id)?;
-                Ok(Command::Delete)
-            }
-            D_T_C_REPLY => {
-                self.bare(id)?;
-                Ok(Command::DeleteReply)
-            }
-            RCV => {
-                self.bare(id)?;
-                Ok(Command::Receive)
-            }
             T_DATA_LAST => Ok(Command::Data(self.data(id)?)),
             NEW_T_C => Ok(Command::NewConnection(self.one(id)?)),
             T_C_ERROR => Ok(Command::Error(self.one(id)?)),
-            _ => Err(TransportFault(Fault::Tag)),
+            tag => {
+                let Some(command) = bare_command(tag) else {
+                    return Err(TransportFault(Fault::Tag));
+                };
+                self.bare(id)?;
+                Ok(command)
+            }
         }
     }
 

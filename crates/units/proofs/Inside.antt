@@ -8,6 +8,8 @@ use lib.Dec.{eqb, ltb, leb}
 use lib.ListN.{length, take, drop}
 use Rattle.std.proofs.shelf.Lists.{length-drop, length-take-le, take-all, take-take, drop-take, drop-drop}
 use Rattle.std.proofs.shelf.Tests.{cond-both, and-parts, leb-true}
+use Rattle.std.specs.declared.option.Option.{Option}
+use Rattle.std.specs.declared.option.Option.the-variants.{Some, None}
 use Rattle.std.specs.declared.result.Result.{Result}
 use Rattle.std.specs.declared.result.Result.the-variants.{Ok, Err}
 use Rattle.cursor.specs.declared.fault.Fault.{Fault}
@@ -25,7 +27,7 @@ use Rattle.tpdu.specs.declared.Response.{Response}
 use Rattle.tpdu.specs.declared.Command.{Command}
 use Rattle.tpdu.specs.declared.Command.the-variants as cmd
 use Rattle.tpdu.specs.Tags.{sb, rcv, create-t-c, c-t-c-reply, delete-t-c, d-t-c-reply, request-t-c, new-t-c, t-c-error, t-data-last, t-data-more}
-use Rattle.tpdu.specs.Transport.{after-id, own, bare, data′, one, object, status, response, order, command}
+use Rattle.tpdu.specs.Transport.{after-id, own, bare, data′, one, bare-object, bare-command, alone, object, status, response, order, command}
 use Rattle.spdu.specs.declared.Request.{Request}
 use Rattle.spdu.specs.declared.Request.the-variants as ask
 use Rattle.spdu.specs.declared.Reply.{Reply}
@@ -42,6 +44,10 @@ use Rattle.units.specs.Laws.{Object-lies, Command-lies, Request-lies, Reply-li
 abbrev Holds : {A E : Type 0} → (A → Type 0) → Result A E → Type 0
 Holds P (Ok a) = P a
 Holds P (Err e) = Unit {0}
+
+abbrev Each : {A : Type 0} → (A → Type 0) → Option A → Type 0
+Each P None = Unit {0}
+Each P (Some a) = P a
 
 abbrev Any : {A : Type 0} → A → Type 0
 Any a = Unit {0}
@@ -176,17 +182,38 @@ module _ (bs : List ℕ) where
   one-safe : (id : ℕ) (p : Place) → In p → Safe Any (one id p)
   one-safe id p i = then-safe _ _ (own-safe id (Exactly 2) p i) (λ body q b j. record { value = byte-safe body b .value; place = j })
 
+  -- an object that is named by its tag and has nothing but the connection
+  named-safe : {A : Type 0} {P : A → Type 0} (id : ℕ) (o : Option A) (p : Place) → Each P o → In p → Safe P (alone id o p)
+  named-safe id None p v i = read-err Tag p i
+  named-safe id (Some a) p v i = as-safe (λ _. a) _ (bare-safe id p i) (λ _ _. v)
+
+  bare-objects : (tag : ℕ) → Each (Object-lies bs) (bare-object tag)
+  bare-objects tag = go (eqb tag c-t-c-reply) (eqb tag delete-t-c) (eqb tag d-t-c-reply) (eqb tag request-t-c)
+    where
+      go : (a b c d : Bool) → Each (Object-lies bs) (cond a (Some obj.CreateReply) (cond b (Some obj.Delete) (cond c (Some obj.DeleteReply) (cond d (Some obj.Request) None))))
+      go true b c d = tt
+      go false true c d = tt
+      go false false true d = tt
+      go false false false true = tt
+      go false false false false = tt
+
+  bare-commands : (tag : ℕ) → Each (Command-lies bs) (bare-command tag)
+  bare-commands tag = go (eqb tag create-t-c) (eqb tag delete-t-c) (eqb tag d-t-c-reply) (eqb tag rcv)
+    where
+      go : (a b c d : Bool) → Each (Command-lies bs) (cond a (Some cmd.Create) (cond b (Some cmd.Delete) (cond c (Some cmd.DeleteReply) (cond d (Some cmd.Receive) None))))
+      go true b c d = tt
+      go false true c d = tt
+      go false false true d = tt
+      go false false false true = tt
+      go false false false false = tt
+
   object-safe : (id : ℕ) (p : Place) → In p → Safe (Object-lies bs) (object id p)
   object-safe id p i =
       then-safe _ _ (byte-safe p i) (λ t q _ j.
       either (eqb t sb) (read-ok obj.Nothing p tt i)
-      (either (eqb t c-t-c-reply) (as-safe (λ _. obj.CreateReply) _ (bare-safe id q j) (λ _ _. tt))
-      (either (eqb t delete-t-c) (as-safe (λ _. obj.Delete) _ (bare-safe id q j) (λ _ _. tt))
-      (either (eqb t d-t-c-reply) (as-safe (λ _. obj.DeleteReply) _ (bare-safe id q j) (λ _ _. tt))
-      (either (eqb t request-t-c) (as-safe (λ _. obj.Request) _ (bare-safe id q j) (λ _ _. tt))
       (either (eqb t t-data-last) (as-safe obj.Last _ (data-safe id q j) (λ _ l. l))
       (either (eqb t t-data-more) (as-safe obj.More _ (data-safe id q j) (λ _ l. l))
-      (read-err Tag q j))))))))
+      (named-safe id (bare-object t) q (bare-objects t) j))))
 
   status-safe : (id : ℕ) (p : Place) → In p → Safe Any (status id p)
   status-safe id p i =
@@ -203,14 +230,10 @@ module _ (bs : List ℕ) where
   order-safe : (id : ℕ) (p : Place) → In p → Safe (Command-lies bs) (order id p)
   order-safe id p i =
       then-safe _ _ (byte-safe p i) (λ t q _ j.
-      either (eqb t create-t-c) (as-safe (λ _. cmd.Create) _ (bare-safe id q j) (λ _ _. tt))
-      (either (eqb t delete-t-c) (as-safe (λ _. cmd.Delete) _ (bare-safe id q j) (λ _ _. tt))
-      (either (eqb t d-t-c-reply) (as-safe (λ _. cmd.DeleteReply) _ (bare-safe id q j) (λ _ _. tt))
-      (either (eqb t rcv) (as-safe (λ _. cmd.Receive) _ (bare-safe id q j) (λ _ _. tt))
-      (either (eqb t t-data-last) (as-safe cmd.Data _ (data-safe id q j) (λ _ l. l))
+      either (eqb t t-data-last) (as-safe cmd.Data _ (data-safe id q j) (λ _ l. l))
       (either (eqb t new-t-c) (as-safe cmd.NewConnection _ (one-safe id q j) (λ _ _. tt))
       (either (eqb t t-c-error) (as-safe cmd.Error _ (one-safe id q j) (λ _ _. tt))
-      (read-err Tag q j))))))))
+      (named-safe id (bare-command t) q (bare-commands t) j))))
 
   command-safe : (id : ℕ) → Safe (Command-lies bs) (command id (start bs))
   command-safe id = alone-safe _ (order-safe id (start bs) in-start)
