@@ -23,13 +23,13 @@ pub enum LinkFault {
     Mark,
 }
 
-#[derive(Clone, Copy)]
+#[derive(Clone, Copy, PartialEq, Eq, Debug)]
 pub struct TransportFault(pub Fault);
 
-#[derive(Clone, Copy)]
+#[derive(Clone, Copy, PartialEq, Eq, Debug)]
 pub struct SessionFault(pub Fault);
 
-#[derive(Clone, Copy)]
+#[derive(Clone, Copy, PartialEq, Eq, Debug)]
 pub struct ObjectFault(pub Fault);
 
 pub impl From<LengthFault> for LinkFault as LinkFromLength {
