@@ -1,3 +1,5 @@
+pub mod Tables
+pub mod Tags
 pub mod Identifiers
 pub mod Options
 pub mod Objects
@@ -5,3 +7,15 @@ pub mod Meaning
 pub mod Lawful
 pub mod Views
 pub mod Duties
+pub mod Plain
+pub mod Named
+pub mod Pair
+pub mod Quota
+pub mod Places
+pub mod Tallies
+pub mod PlainLaws
+pub mod NamedLaws
+pub mod Matching
+pub mod PairLists
+pub mod PairLaws
+pub mod QuotaLaws

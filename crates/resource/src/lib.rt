@@ -6,8 +6,8 @@ ghost use Rattle.resource.specs.Lawful.{Lawful};
 ghost use Rattle.resource.specs.Duties.{finds, readiness, greets, counts, after-opened, after-closed, comes-to, after-gone, after-told, Kept};
 ghost use Rattle.resource.specs.Options.{map-option};
 ghost use Rattle.resource.specs.Views.{sent, said, heard};
-use apdu::Apdu;
 use crate::piece::Piece;
+use apdu::Apdu;
 
 pub mod identifier;
 pub mod piece;
@@ -52,7 +52,13 @@ pub trait Resource {
         ensures kept { λ _. ⌜ Kept meaning slot (now (self .entry)) (now (self .exit)) ⌝ };
 
     // An object came in a session.
-    fn object(&mut self, slot: u8, identifier: u32, number: u8, apdu: Apdu<&[u8]>) -> Reaction<Piece>
+    fn object(
+        &mut self,
+        slot: u8,
+        identifier: u32,
+        number: u8,
+        apdu: Apdu<&[u8]>,
+    ) -> Reaction<Piece>
         ensures share { λ r. ⌜ outcome (said r) (meaning .share (now (self .exit)) slot) ≡ comes-to meaning (now (self .entry)) slot identifier number (heard (apdu .entry)) ⌝ }
         ensures kept { λ _. ⌜ Kept meaning slot (now (self .entry)) (now (self .exit)) ⌝ };
 
