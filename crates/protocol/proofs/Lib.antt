@@ -1,1 +1,15 @@
+pub mod Pages
+pub mod Slots
+pub mod Shares
+pub mod Closing
+pub mod Each
+pub mod Steps
+pub mod Free
+pub mod Objects
+pub mod Feeds
+pub mod Agree
+pub mod Apart
+pub mod Stands
+pub mod Lengths
+pub mod Room
 pub mod Wire

@@ -1,7 +1,7 @@
 -- What holds of a host after every list of calls.
 use mathlib.Core.Path.{_≡_}
 use mathlib.Core.Bool.{Bool, true, false, cond}
-use mathlib.Core.List.{List, [], _∷_}
+use mathlib.Core.List.{List, [], _∷_, _++_}
 use Prim.Native.Nat.{ℕ, _≤_, _<_}
 use lib.Dec.{eqb}
 use lib.ListN.{length}
@@ -92,3 +92,10 @@ module _ {S : Type 0} (M : Meaning S) (made : M .Made) where
         → (answers M made s cs (new M made) ≡ answers M made s ds (new M made)) × (h s ≡ run M made ds (new M made) s)
     pub absent : (s : ℕ) → s < 4 → ledger cs s .present ≡ false → ledger cs s .line 1 .out ≡ false → ledger cs s .line 2 .out ≡ false
         → h s ≡ run M made (clock-alone (told-last None cs)) (new M made) s
+
+  abbrev pub Stands-at-first : Type 0
+  Stands-at-first = Stands [] (new M made)
+
+  -- whatever leaves each slot as one call more does
+  abbrev pub Stands-on : Type 0
+  Stands-on = (cs : List Call) (c : Call) (h after : Shelf M made) → Stands cs h → ((s : ℕ) → s < 4 → after s ≡ step M made c h s) → Stands (cs ++ c ∷ []) after

@@ -1,4 +1,7 @@
-// What a host keeps of a slot.
+// What a host keeps of a slot, and the laws of its calls over every resource.
+ghost use Rattle.protocol.specs.Laws.{Sessions-agree, Slots-apart, Absent-as-new, Room, Stands-at-first, Stands-on};
+ghost use Rattle.protocol.specs.Wire.{Wire};
+use resource::Resource;
 use spdu::Reply;
 use spdu::ReplyClone;
 
@@ -30,3 +33,34 @@ pub enum Owed<B> {
     NoConnection,
     Say(Reply<B>),
 }
+
+// After every list of calls to a new host, its sessions are the ledger's, and the resource holds and counts exactly these.
+pub fn sessions_agree<R: Resource>()
+    ensures { λ _. ⌜ ((made : R·Resource .meaning .Made) → Sessions-agree (R·Resource .meaning) made) ⌝ }
+{}
+
+// What a slot answers and comes to rests on the clock calls and on its own calls alone.
+pub fn slots_apart<R: Resource>()
+    ensures { λ _. ⌜ ((made : R·Resource .meaning .Made) → Slots-apart (R·Resource .meaning) made) ⌝ }
+{}
+
+// An absent slot with no turn out is as in a new host that was told the time.
+pub fn absent_as_new<R: Resource>()
+    ensures { λ _. ⌜ ((made : R·Resource .meaning .Made) → Absent-as-new (R·Resource .meaning) made) ⌝ }
+{}
+
+// A new host stands for no calls, and one that stands for a list of calls stands for the list with one call more.
+pub fn still_stands<R: Resource>()
+    ensures new { λ _. ⌜ ((made : R·Resource .meaning .Made) → Stands-at-first (R·Resource .meaning) made) ⌝ }
+    ensures on { λ _. ⌜ ((made : R·Resource .meaning .Made) → Stands-on (R·Resource .meaning) made) ⌝ }
+{}
+
+// 152 bytes are room for every command, and no command is longer.
+pub fn room_suffices<R: Resource>()
+    ensures { λ _. ⌜ ((made : R·Resource .meaning .Made) → Room (R·Resource .meaning) made) ⌝ }
+{}
+
+// The worked examples.
+pub fn bytes_on_the_wire()
+    ensures { λ _. ⌜ Wire ⌝ }
+{}

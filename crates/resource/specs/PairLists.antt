@@ -141,4 +141,3 @@ not-added js i j x y z e f = rw (not-one js i j x e f) (elim y as (λ b. z ≡ (
 
 pub not-taken : (js : List ℕ) (i j : ℕ) (x y z : Bool) → ours js i ≡ x → ours js j ≡ not x → z ≡ (not (y && eqb j i) && z)
 not-taken js i j x y z e f = rw (not-one js i j x e f) (elim y as (λ b. z ≡ (not (b && false) && z)) [ true ↦ refl | false ↦ refl ])
-
