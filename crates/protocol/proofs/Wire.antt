@@ -5,4 +5,4 @@ use Rattle.protocol.specs.Wire.{Wire}
 
 pub wire : Wire
 unfolding numbers
-wire = record { short = refl; long = refl; no-bytes = refl; three-bytes = refl; written = refl; private = refl; spoken = refl }
+wire = record { short = refl; long = refl; no-bytes = refl; three-bytes = refl; written = refl; private = refl; spoken = refl; beside = refl }
