@@ -39,8 +39,8 @@ pub trait Resource {
     fn greeting(&self, identifier: u32) -> Option<Piece>
         ensures { λ r. ⌜ map-option sent r ≡ greets meaning (now (self .entry)) identifier ⌝ };
 
-    // How many sessions are held for a slot.
-    fn count(&self, slot: u8) -> u8
+    // How many sessions are held for a slot, or as many as 32 bits tell.
+    fn count(&self, slot: u8) -> u32
         ensures { λ r. ⌜ r ≡ counts meaning (now (self .entry)) slot ⌝ };
 
     fn opened(&mut self, slot: u8, identifier: u32, number: u8)
