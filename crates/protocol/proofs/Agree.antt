@@ -22,17 +22,17 @@ use Rattle.protocol.specs.declared.Row.{Row}
 use Rattle.protocol.specs.Results.{refuse}
 use Rattle.protocol.specs.Record.{valid, bare, fresh}
 use Rattle.protocol.specs.Sound.{Absent, Sound}
-use Rattle.protocol.specs.Calls.{Act, plug, pull, end, next, feed, expire, Served, Stand, act}
+use Rattle.protocol.specs.Calls.{Act, Served, Stand, act}
 use Rattle.protocol.specs.Runs.{Call, clock, at, time-fits, Shelf, new, answer, answer-of, stand-of, tell, step, run, told-last, clock-alone}
 use Rattle.protocol.specs.Ledger.{Session, Page, blank, enter, noted}
-use Rattle.protocol.specs.Laws.{session-of, identified, telling, page-after, pages, ledger, Agrees, Sessions-agree, Absent-as-new}
+use Rattle.protocol.specs.Laws.{session-of, identified, telling, page-after, pages, ledger, Agrees, Records-sound, Sessions-agree, Absent-as-new}
 use Rattle.protocol.proofs.Pages.{page-of}
 use Rattle.protocol.proofs.Slots.{absent-bare, fresh-sound}
 use Rattle.protocol.proofs.Shares.{Shared, told-shared, new-shared}
 use Rattle.protocol.proofs.Free.{same-some}
 use Rattle.protocol.proofs.Each.{Each}
-use Rattle.protocol.proofs.Steps.{Follows, Kept, plug-kept, pull-kept, end-kept, expire-kept, next-kept}
-use Rattle.protocol.proofs.Feeds.{feed-kept}
+use Rattle.protocol.proofs.Steps.{Follows}
+use Rattle.protocol.proofs.Acts.{act-kept}
 
 -- a time that was told may be told
 abbrev Tellable : Option (List ℕ) → Type 0
@@ -76,15 +76,6 @@ module _ {S : Type 0} (M : Meaning S) (made : M .Made) where
       go n x (Some r) e f = (let same : record { connection = r .connection; identifier = r .identifier } ≡ x = cc in ap (λ z. p .line (z .connection) .active) (sym same) ∙ ap (λ q. q .line (r .connection) .active) (sym (k .page)) ∙ k .sound .on-active n r e)
 
   module _ (law : Lawful M) where
-    -- every served call keeps a sound slot sound, whatever it is
-    pub act-kept : (s : ℕ) (a : Act) (st : Stand (M .Share)) → leb s 3 ≡ true → Sound (st .slot) → Kept M made s a st
-    act-kept s (plug n) st h k = plug-kept M made s law st n k
-    act-kept s pull st h k = pull-kept M made s law h st k
-    act-kept s (end c) st h k = end-kept M made s law st c k
-    act-kept s (next c room) st h k = next-kept M made s st c room k
-    act-kept s (feed c bs) st h k = feed-kept M made s law h st c bs k
-    act-kept s (expire c) st h k = expire-kept M made s law st c k
-
     -- a call on the slot
     acted : (s : ℕ) (a : Act) (st : Stand (M .Share)) (t : Option (List ℕ)) (r : Result (Served (M .Share)) Refusal) → Sound (st .slot) → Shared M made s st → M .gone made s (st .share) ≡ M .beginning made t
         → Each r (λ x. Follows M made s st (x .stand) (enter a (telling M made s (Ok (x .answer)) st) (page-of (st .slot))))
@@ -95,7 +86,7 @@ module _ {S : Type 0} (M : Meaning S) (made : M .Made) where
     here-tracks : (s : ℕ) (a : Act) (st : Stand (M .Share)) (p : Page) (t : Option (List ℕ)) → s < 4 → Tracks s st p t
         → Tracks s (stand-of st (act M made s a st)) (noted a (telling M made s (answer-of (act M made s a st)) st) p) t
     here-tracks s a st p t b k =
-        let f = acted s a st t (act M made s a st) (k .sound) (k .shared) (k .gone) (act-kept s a st (le-leb s 3 (omega arith)) (k .sound)) in
+        let f = acted s a st t (act M made s a st) (k .sound) (k .shared) (k .gone) (act-kept M made s law a st (le-leb s 3 (omega arith)) (k .sound)) in
         record { sound = f .sound; shared = f .shared; page = f .page ∙ ap (noted a (telling M made s (answer-of (act M made s a st)) st)) (k .page); gone = f .gone }
 
     at-tracks : (s i : ℕ) (a : Act) (h : Shelf M made) (p : ℕ → Page) (t : Option (List ℕ)) → s < 4 → Tracks s (h s) (p s) t → Tracks s (step M made (at i a) h s) (page-after M made (at i a) h p s) t
@@ -127,8 +118,8 @@ module _ {S : Type 0} (M : Meaning S) (made : M .Made) where
       gone = law .gone-beginning made s None;
     }
 
-    pub run-sound : (cs : List Call) (s : ℕ) → s < 4 → Sound (run M made cs (new M made) s .slot)
-    run-sound cs s b = new-tracks cs s b .sound
+    pub records-sound : Records-sound M made
+    records-sound cs s b = new-tracks cs s b .sound
 
     pub sessions-agree : Sessions-agree M made
     sessions-agree cs s b = agrees s _ _ _ (new-tracks cs s b)

@@ -7,6 +7,7 @@ pub mod Steps
 pub mod Free
 pub mod Objects
 pub mod Feeds
+pub mod Acts
 pub mod Agree
 pub mod Apart
 pub mod Stands

@@ -32,7 +32,7 @@ use Rattle.protocol.specs.Runs.{Call, at, run, new, answer, answer-of}
 use Rattle.protocol.specs.Laws.{Room}
 use Rattle.protocol.proofs.Lengths.{Short, lpdus-length, owed-short}
 use Rattle.protocol.proofs.Objects.{object-brief}
-use Rattle.protocol.proofs.Agree.{run-sound}
+use Rattle.protocol.proofs.Agree.{records-sound}
 
 -- no refusal for want of room, if there are 152 bytes, and nothing longer written
 abbrev Fits-in : {A : Type 0} → ℕ → (A → Type 0) → Result A Refusal → Type 0
@@ -112,7 +112,7 @@ module _ {S : Type 0} (M : Meaning S) (made : M .Made) (law : Lawful M) where
   fitting : (cs : List Call) (s c room : ℕ) → Fits-in room Brief-answer (answer M made (at s (next c room)) (run M made cs (new M made)))
   fitting cs s c room =
       refuse-fits room Brief-answer (ltb 3 s) no.Slot _ (λ _ _ z. (let y : _≡_ {A = ℕ} 0 1 = cc in omega arith)) (λ e.
-      answer-fits room (nexted M made s c room (run M made cs (new M made) s)) (next-fits M made s law (run M made cs (new M made) s) c (run-sound M made law cs s (omega (arith, ltb-false 3 s e))) room))
+      answer-fits room (nexted M made s c room (run M made cs (new M made) s)) (next-fits M made s law (run M made cs (new M made) s) c (records-sound M made law cs s (omega (arith, ltb-false 3 s e))) room))
 
   pub room : Room M made
   room = record {

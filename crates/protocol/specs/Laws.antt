@@ -18,6 +18,7 @@ use Rattle.resource.specs.Identifiers.{found}
 use Rattle.resource.specs.Meaning.{Meaning}
 use Rattle.protocol.specs.declared.Row.{Row}
 use Rattle.protocol.specs.Record.{is-active}
+use Rattle.protocol.specs.Sound.{Sound}
 use Rattle.protocol.specs.Calls.{Stand, next, Answer, done, turn-back, wrote}
 use Rattle.protocol.specs.Runs.{Call, clock, at, Shelf, new, answer, step, run, only, answers, told-last, clock-alone}
 use Rattle.protocol.specs.Ledger.{Session, Page, Told, blank, noted}
@@ -64,6 +65,10 @@ module _ {S : Type 0} (M : Meaning S) (made : M .Made) where
     pub out : (c : ℕ) → st .slot .conn c .out ≡ p .line c .out
     pub active : (c : ℕ) → is-active (st .slot .conn c .state) ≡ p .line c .active
     pub on-active : (n : ℕ) (x : Session) → p .sessions n ≡ Some x → p .line (x .connection) .active ≡ true
+
+  -- after every list of calls every slot's record is sound
+  abbrev pub Records-sound : Type 0
+  Records-sound = (cs : List Call) (s : ℕ) → s < 4 → Sound (run M made cs (new M made) s .slot)
 
   -- after every list of calls the host, the resource and the ledger agree on every slot
   abbrev pub Sessions-agree : Type 0

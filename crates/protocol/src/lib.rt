@@ -1,5 +1,5 @@
 // What a host keeps of a slot, and the laws of its calls over every resource.
-ghost use Rattle.protocol.specs.Laws.{Sessions-agree, Slots-apart, Absent-as-new, Room, Stands-at-first, Stands-on};
+ghost use Rattle.protocol.specs.Laws.{Records-sound, Sessions-agree, Slots-apart, Absent-as-new, Room, Stands-at-first, Stands-on};
 ghost use Rattle.protocol.specs.Wire.{Wire};
 use resource::Resource;
 use spdu::Reply;
@@ -33,6 +33,11 @@ pub enum Owed<B> {
     NoConnection,
     Say(Reply<B>),
 }
+
+// After every list of calls to a new host, each slot's record is sound: a session is on an Active connection, and nothing is owed where the turn is out.
+pub fn records_sound<R: Resource>()
+    ensures { λ _. ⌜ ((made : R·Resource .meaning .Made) → Records-sound (R·Resource .meaning) made) ⌝ }
+{}
 
 // After every list of calls to a new host, its sessions are the ledger's, and the resource holds and counts exactly these.
 pub fn sessions_agree<R: Resource>()
