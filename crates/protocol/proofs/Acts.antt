@@ -12,7 +12,7 @@ use Rattle.protocol.specs.Sound.{Sound}
 use Rattle.protocol.specs.Calls.{Act, plug, pull, end, next, feed, expire, Served, Stand, act}
 use Rattle.protocol.specs.Runs.{stand-of}
 use Rattle.protocol.proofs.Each.{Each, each-weaker}
-use Rattle.protocol.proofs.Steps.{Follows, Kept, plug-kept, pull-kept, end-kept, expire-kept, next-kept}
+use Rattle.protocol.proofs.Steps.{Kept, plug-kept, pull-kept, end-kept, expire-kept, next-kept}
 use Rattle.protocol.proofs.Feeds.{feed-kept}
 
 module _ {S : Type 0} (M : Meaning S) (made : M .Made) (at : ℕ) (law : Lawful M) where

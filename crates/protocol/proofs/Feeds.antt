@@ -1,6 +1,6 @@
 -- A served feed keeps a slot sound with its share, and the ledger's page keeps up with it.
 use mathlib.Core.Path.{_≡_, refl, sym, ap, _∙_}
-use mathlib.Core.Bool.{Bool, true, false, cond, not, _&&_}
+use mathlib.Core.Bool.{Bool, true, false, cond, not}
 use mathlib.Core.List.{List, [], _∷_, _++_}
 use Prim.Native.Nat.{ℕ, _≤_}
 use native.Mathlib.Omega.{arith}
@@ -24,7 +24,6 @@ use Rattle.spdu.specs.declared.Request.{Request}
 use Rattle.spdu.specs.declared.Request.the-variants as ask
 use Rattle.spdu.specs.declared.Reply.the-variants as say
 use Rattle.spdu.specs.Session.{read-request}
-use Rattle.apdu.specs.declared.Apdu.{Apdu}
 use Rattle.apdu.specs.Application.{read-apdu}
 use Rattle.resource.specs.declared.Reaction.{Reaction}
 use Rattle.resource.specs.declared.Reaction.the-variants.{Refused, Silent, Reply}

@@ -5,7 +5,7 @@ use mathlib.Core.List.{List, [], _∷_, _++_}
 use Prim.Native.Nat.{ℕ, suc, _*_, _%_, _≤_}
 use native.Mathlib.Omega.{arith}
 use lib.Dec.{eqb, ltb, leb}
-use lib.ListN.{length, take, drop, getD}
+use lib.ListN.{length, take, drop}
 use Rattle.std.proofs.shelf.Tests.{cond-both, cond-true, lt-ltb, le-leb}
 use Rattle.std.proofs.shelf.Lists.{length-take, drop-all}
 use Rattle.std.specs.Results.{isOk}
