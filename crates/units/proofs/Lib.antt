@@ -1,3 +1,3 @@
 mod Inside
 mod Reading-back
-mod Worked
+pub mod Worked

@@ -1,0 +1,16 @@
+pub mod Pages
+pub mod Slots
+pub mod Shares
+pub mod Closing
+pub mod Each
+pub mod Steps
+pub mod Free
+pub mod Objects
+pub mod Feeds
+pub mod Acts
+pub mod Agree
+pub mod Apart
+pub mod Stands
+pub mod Lengths
+pub mod Room
+pub mod Wire
