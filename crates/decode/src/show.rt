@@ -26,7 +26,7 @@ fn size(rt: &LibcRuntime, n: usize) -> io::Result<()> {
 }
 
 // An LPDU, or what is wrong with it.
-pub fn link(
+pub(crate) fn link(
     rt: &LibcRuntime,
     slot: u8,
     direction: Direction,
@@ -54,7 +54,12 @@ pub fn link(
 }
 
 // A unit that is not kept.
-pub fn refused(rt: &LibcRuntime, refusal: Refusal, unit: &str, limit: usize) -> io::Result<()> {
+pub(crate) fn refused(
+    rt: &LibcRuntime,
+    refusal: Refusal,
+    unit: &str,
+    limit: usize,
+) -> io::Result<()> {
     match refusal {
         Refusal::Limit => println!(rt, "  {unit} dropped: longer than {limit} bytes"),
         Refusal::Memory => Err(io::Error::from(AllocError)),
@@ -62,7 +67,7 @@ pub fn refused(rt: &LibcRuntime, refusal: Refusal, unit: &str, limit: usize) -> 
 }
 
 // A TPDU. Data of the module with more to follow are chained.
-pub fn tpdu(
+pub(crate) fn tpdu(
     rt: &LibcRuntime,
     direction: Direction,
     id: u8,

@@ -1,7 +1,7 @@
 -- What a resource as it stands answers, and what a call leaves of it.
 use mathlib.Core.Path.{_≡_}
 use mathlib.Core.List.{List}
-use Prim.Native.Nat.{ℕ, min, _<_}
+use Prim.Native.Nat.{ℕ, _<_}
 use Rattle.std.specs.declared.option.Option.{Option}
 use Rattle.std.specs.declared.option.Option.the-variants.{None}
 use Rattle.apdu.specs.declared.Apdu.{Apdu}
@@ -18,9 +18,8 @@ module _ {S : Type 0} (M : Meaning S) where
   abbrev pub readiness : S → ℕ → ℕ → ℕ
   readiness r slot i = M .ready (M .made r) slot i (M .share r slot)
 
-  -- how many sessions it holds for the slot, as far as 32 bits tell
   abbrev pub counts : S → ℕ → ℕ
-  counts r slot = min 0xffffffff (M .count (M .made r) slot (M .share r slot))
+  counts r slot = M .count (M .made r) slot (M .share r slot)
 
   -- the share of the slot after each call
   abbrev pub after-opened : S → ℕ → ℕ → ℕ → M .Share

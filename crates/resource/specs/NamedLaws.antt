@@ -80,7 +80,7 @@ profile-good : (b : Bool) → Good (profile-answer b)
 profile-good true = tt
 profile-good false = refl
 
-manager-orderly : Orderly manager
+pub manager-orderly : Orderly manager
 manager-orderly = record {
   greets = λ bs. some-is IsObject (object-of tag.profile-enq []) bs refl;
   reacts = λ m t n a f.
@@ -90,7 +90,7 @@ manager-orderly = record {
       (fine-answer f _ _ tt)));
 }
 
-information-orderly : Orderly information
+pub information-orderly : Orderly information
 information-orderly = record {
   greets = λ bs. some-is IsObject (object-of tag.application-info-enq []) bs refl;
   reacts = λ m t n a f.
@@ -102,7 +102,7 @@ time-good : (t : Option (List ℕ)) → Good (time-answer t)
 time-good None = tt
 time-good (Some t) = refl
 
-clock-orderly : Orderly clock
+pub clock-orderly : Orderly clock
 clock-orderly = record {
   greets = λ bs e. no-some bs e;
   reacts = λ m t n a f.

@@ -1,6 +1,6 @@
 // What a host asks of a resource: a trait with a meaning, and the laws that every meaning keeps.
 ghost use mathlib.Core.Path.{_≡_};
-ghost use Prim.Native.Nat.{ℕ, _<_};
+ghost use Prim.Native.Nat.{ℕ, _<_, _-_, _^_, min};
 ghost use Rattle.resource.specs.Meaning.{Meaning, outcome};
 ghost use Rattle.resource.specs.Lawful.{Lawful};
 ghost use Rattle.resource.specs.Duties.{finds, readiness, greets, counts, after-opened, after-closed, comes-to, after-gone, after-told, Kept};
@@ -36,9 +36,9 @@ pub trait Resource {
     fn greeting(&self, identifier: u32) -> Option<Piece>
         ensures { λ r. ⌜ map-option sent r ≡ greets meaning (now (self .entry)) identifier ⌝ };
 
-    // How many sessions are held for a slot, or as many as 32 bits tell.
-    fn count(&self, slot: u8) -> u32
-        ensures { λ r. ⌜ r ≡ counts meaning (now (self .entry)) slot ⌝ };
+    // How many sessions are held for a slot, as far as the number goes.
+    fn count(&self, slot: u8) -> usize
+        ensures { λ r. ⌜ r ≡ min (counts meaning (now (self .entry)) slot) (2 ^ 64 - 1) ⌝ };
 
     fn opened(&mut self, slot: u8, identifier: u32, number: u8)
         ensures share { λ _. ⌜ meaning .share (now (self .exit)) slot ≡ after-opened meaning (now (self .entry)) slot identifier number ⌝ }

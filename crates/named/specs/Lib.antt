@@ -1,0 +1,2 @@
+pub mod Nature
+pub mod Shares
