@@ -22,7 +22,7 @@ use text::Text;
 
 // At most sixteen identifiers, with their number.
 #[derive(Clone, Copy)]
-pub struct Own {
+struct Own {
     identifiers: [u32; 16],
     count: usize,
 }
@@ -83,7 +83,7 @@ pub struct Manager {
 impl Manager {
     // A new resource, which announces the first sixteen of these.
     pub fn resource(identifiers: &[u32]) -> Named<Manager>
-        ensures made { λ r. ⌜ own-of (r .kind .own) ≡ take 16 (now (identifiers .entry)) ⌝ }
+        ensures made { λ r. ⌜ manager-meaning .made r ≡ take 16 (now (identifiers .entry)) ⌝ }
         ensures begins { λ r. ⌜ New manager-meaning r ⌝ }
     {
         Named::new(Manager {

@@ -149,6 +149,35 @@ mod tests {
         check(r.kind().kept(1).is_none())
     }
 
+    fn reply_length(got: Reaction<Piece>) -> usize {
+        match got {
+            Reaction::Reply(piece) => piece.bytes().len(),
+            _ => 0,
+        }
+    }
+
+    #[test]
+    fn limits() -> Result<(), Fail> {
+        let asks: Apdu<&[u8]> = Apdu {
+            tag: 0x9F8010,
+            body: &[],
+        };
+        let mut many = Manager::resource(&[DATE_TIME; 17]);
+        many.opened(0, MANAGER, 1);
+        check_eq(reply_length(many.object(0, MANAGER, 1, asks)), 68)?;
+        let mut none = Manager::resource(&[]);
+        none.opened(0, MANAGER, 1);
+        check_eq(reply_length(none.object(0, MANAGER, 1, asks)), 4)?;
+        let mut r = Information::resource();
+        r.opened(0, INFORMATION, 1);
+        let longest: Apdu<&[u8]> = Apdu {
+            tag: 0x9F8021,
+            body: &[0xFF; 261],
+        };
+        check(same(r.object(0, INFORMATION, 1, longest), Reaction::Silent))?;
+        check(keeps(r.kind().kept(0), &[0xFF; 261]))
+    }
+
     #[test]
     fn all_under_a_quota() -> Result<(), Fail> {
         let mut r = standard(2, &[MANAGER, INFORMATION, DATE_TIME]);

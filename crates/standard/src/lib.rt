@@ -2,7 +2,6 @@
 ghost use mathlib.Core.Path.{_≡_};
 ghost use lib.ListN.{take};
 ghost use Rattle.resource.specs.Duties.{New};
-ghost use Rattle.manager.specs.Kinds.{own-of};
 ghost use Rattle.standard.specs.Standards.{standard-meaning};
 use date_time::DateTime;
 use date_time::DateTimeKind;
@@ -21,8 +20,7 @@ pub type Standard = Quota<Pair<Pair<Named<Manager>, Named<Information>>, Named<D
 
 // A new resource, which announces the first sixteen of these identifiers and has so many sessions in a slot.
 pub fn standard(limit: u8, identifiers: &[u32]) -> Standard
-    ensures limit { λ r. ⌜ r .limit ≡ limit ⌝ }
-    ensures own { λ r. ⌜ own-of (r .below .first .first .kind .own) ≡ take 16 (now (identifiers .entry)) ⌝ }
+    ensures made { λ r. ⌜ standard-meaning .made r ≡ (limit, ((take 16 (now (identifiers .entry)), tt), tt)) ⌝ }
     ensures begins { λ r. ⌜ New standard-meaning r ⌝ }
 {
     let manager = Manager::resource(identifiers);
