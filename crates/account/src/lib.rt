@@ -1,4 +1,6 @@
 // Names of units, statuses, resources, objects and faults, and numbers in hexadecimal digits.
+#![tactic(auto)]
+
 ghost use Rattle.std.specs.Prelude.{◌≡◌};
 ghost use Rattle.std.specs.Option.{option_map};
 ghost use Rattle.account.specs.Names.{transport as transport_name, session as session_name, opening as opening_name, closing as closing_name, resource as resource_name, object as object_name, fault as fault_name, link_fault, digit as digit_of, byte_digits, word_digits};

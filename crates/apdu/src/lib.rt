@@ -1,4 +1,6 @@
 // Application objects (APDUs).
+#![tactic(auto)]
+
 ghost use Rattle.std.specs.Prelude.{◌≡◌};
 ghost use Rattle.cursor.specs.Reading.{start};
 ghost use Rattle.apdu.specs.Application.{tag as tag_of, object as object_of};

@@ -1,4 +1,6 @@
 // Holds one conversation with Resource Manager, Application Information and Date-Time as one resource, and prints it.
+#![tactic(auto)]
+
 use account::hex;
 use apdu::{
     APPLICATION_INFO, Apdu, DATE_TIME_ENQUIRY, PROFILE_CHANGED, PROFILE_ENQUIRY, PROFILE_REPLY,

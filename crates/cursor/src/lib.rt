@@ -1,4 +1,6 @@
 // Reading forward over the bytes of a unit: a cursor, the parts that it hands out, and the faults of each layer.
+#![tactic(auto)]
+
 ghost use Rattle.std.specs.Prelude.{◌≡◌, ◌≤◌, length};
 ghost use Rattle.cursor.specs.Reading.{start, byte as byte_of, finish as finished, number as number_of_lem, word as word_of, length_field, field as field_of, admits as admitted, rest as rest_of, split, first as first_of};
 ghost use Rattle.cursor.specs.Views.{place, read, read_place, part, first_view};

@@ -1,4 +1,6 @@
 // Tells what the LPDUs of a recording say, which it reads from standard input.
+#![tactic(auto)]
+
 ghost use Rattle.std.specs.Prelude.{◌≤◌};
 
 use cursor::Part;

@@ -1,4 +1,6 @@
 // What a connection hears: fragments, transport units and their data.
+#![tactic(auto)]
+
 ghost use Rattle.std.specs.Prelude.{◌≡◌, Ok};
 ghost use Rattle.tpdu.specs.declared.Object.TheVariants.{More, Last};
 ghost use Rattle.tpdu.specs.Transport.{read_response};

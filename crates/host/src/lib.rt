@@ -1,2 +1,4 @@
 // A Common Interface host for a shelf of four slots.
+#![tactic(auto)]
+
 pub mod turn;

@@ -1,4 +1,6 @@
 // Identifiers of resources: kind 2 bits, class 14, type 10, version 6. After kind 3, which is private, come definer 10 and identity 20.
+#![tactic(auto)]
+
 ghost use Rattle.std.specs.Prelude.{◌≡◌};
 ghost use Rattle.identifier.specs.Identifiers.{kind as kind_of, class as class_of, resource_type as resource_type_of, version as version_of, definer as definer_of, identity as identity_of, private, matches as matched, older};
 

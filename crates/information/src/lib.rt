@@ -1,4 +1,6 @@
 // Application Information (00020041): keeps what a slot's module last told of itself.
+#![tactic(auto)]
+
 ghost use Rattle.std.specs.Prelude.{◌≡◌, ◌≤◌, true, length};
 ghost use Rattle.resource.specs.Duties.{New};
 ghost use Rattle.piece.specs.Options.{map_option};

@@ -1,4 +1,6 @@
 // What is kept of a unit until it is whole: a TPDU's fragments, or an SPDU's data over several TPDUs.
+#![tactic(auto)]
+
 ghost use Rattle.std.specs.Prelude.{◌≡◌};
 ghost use Rattle.joiner.specs.Keeping.{empty, added, ran_out};
 ghost use Rattle.joiner.specs.Views.{held};

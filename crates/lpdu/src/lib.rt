@@ -1,4 +1,6 @@
 // Link units (LPDUs).
+#![tactic(auto)]
+
 ghost use Rattle.std.specs.Prelude.{◌≡◌, ◌+◌, ◌-◌, ◌*◌, ◌/◌, ◌≤◌, true, ◌∷◌, length, Ok, nat_le};
 ghost use Rattle.writer.specs.Writing.{laid};
 ghost use Rattle.lpdu.specs.Fragments.{laid_lpdus, cut_bytes, behind};

@@ -1,4 +1,6 @@
 // Resource Manager (00010041): tells a module which resources there are.
+#![tactic(auto)]
+
 ghost use Rattle.std.specs.Prelude.{◌≡◌, ◌+◌, ◌≤◌, ◌++◌, length, take};
 ghost use Rattle.writer.specs.Writing.{four};
 ghost use Rattle.resource.specs.Duties.{New};

@@ -1,4 +1,6 @@
 // A mark on each of the numbers from 1 to 16.
+#![tactic(auto)]
+
 ghost use Rattle.std.specs.Prelude.{◌≡◌, ◌≤◌, false, if◌then◌else◌};
 ghost use Rattle.resource.specs.Tables.{put, tally, numbers};
 ghost use Rattle.marks.specs.Marked.{marked};

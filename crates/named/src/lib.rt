@@ -1,4 +1,6 @@
 // Resources of one identifier that are always ready. What they share is here; a kind says what each of them adds.
+#![tactic(auto)]
+
 ghost use Rattle.std.specs.Prelude.{◌≡◌, true, ℕ, ◌<◌, ◌≤◌};
 ghost use Rattle.resource.specs.Meaning.{outcome};
 ghost use Rattle.resource.specs.Duties.{New};

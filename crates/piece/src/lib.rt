@@ -1,4 +1,6 @@
 // What a resource sends: one application object of at most 124 bytes.
+#![tactic(auto)]
+
 ghost use Rattle.std.specs.Prelude.{◌≡◌, ◌≤◌, length, if◌then◌else◌, Some, None};
 ghost use Rattle.piece.specs.Objects.{is_object as object_is, IsObject, used};
 ghost use Rattle.piece.specs.Options.{map_option};

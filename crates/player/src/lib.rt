@@ -1,4 +1,6 @@
 // A player: a host with the turns that it handed out.
+#![tactic(auto)]
+
 mod desk;
 mod hand;
 pub mod player;

@@ -1,4 +1,6 @@
 // What a host keeps of a slot, and the laws of its calls over every resource.
+#![tactic(auto)]
+
 ghost use Rattle.protocol.specs.Laws.{RecordsSound, SessionsAgree, SlotsApart, AbsentAsNew, Room, StandsAtFirst, StandsOn};
 ghost use Rattle.protocol.specs.Wire.{Wire};
 

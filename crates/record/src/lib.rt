@@ -1,4 +1,6 @@
 // A slot's record.
+#![tactic(auto)]
+
 pub mod buffer;
 pub mod connection;
 pub mod number;

@@ -1,4 +1,6 @@
 // Recordings: lines of text that show the LPDUs that went between a host and a module.
+#![tactic(auto)]
+
 ghost use Rattle.std.specs.Prelude.{◌≡◌, ◌<◌, [], IfSome, IfOk, MatchResult};
 ghost use Rattle.recording.specs.Hex.{is_blank, digit as digit_of, pair as pair_of, after, whole, held, read_one, read_all};
 ghost use Rattle.recording.specs.Lines.{said, carries as carrying, told, all_blank, slot_after, slot_line, slot_place, lpdu_line, word_line, parsed};

@@ -1,4 +1,6 @@
 // Why a call to the host is not served.
+#![tactic(auto)]
+
 ghost use Rattle.std.specs.Prelude.{◌≡◌};
 ghost use Rattle.refusal.specs.declared.Refusal.TheVariants.{Link, Transport, Session, Apdu};
 ghost use Rattle.refusal.specs.Numbers.{number as number_of_lem};

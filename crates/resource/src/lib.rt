@@ -1,4 +1,6 @@
 // What a host asks of a resource: a trait with a meaning, and the laws that every meaning keeps.
+#![tactic(auto)]
+
 ghost use Rattle.std.specs.Prelude.{◌≡◌, ℕ, ◌-◌, ◌^◌, ◌<◌, min};
 ghost use Rattle.resource.specs.Meaning.{Meaning, outcome};
 ghost use Rattle.resource.specs.Lawful.{Lawful};

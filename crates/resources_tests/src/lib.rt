@@ -1,4 +1,6 @@
 // Conversations with the named resources.
+#![tactic(auto)]
+
 #[cfg(test)]
 mod tests {
     use apdu::Apdu;

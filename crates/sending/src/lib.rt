@@ -1,4 +1,6 @@
 // What a connection sends: the command that is due, written as link units.
+#![tactic(auto)]
+
 ghost use Rattle.std.specs.Prelude.{◌≡◌, ◌≤◌, length, take, is_some};
 ghost use Rattle.lpdu.specs.Fragments.{write_lpdus as lpdus_written};
 ghost use Rattle.tpdu.specs.declared.Command.TheVariants.{Data};

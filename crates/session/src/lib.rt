@@ -1,4 +1,6 @@
 // Session units that a connection hears.
+#![tactic(auto)]
+
 ghost use Rattle.std.specs.Prelude.{◌≡◌, []};
 ghost use Rattle.identifier.specs.Identifiers.{found};
 ghost use Rattle.resource.specs.Duties.{Kept};

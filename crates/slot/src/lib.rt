@@ -1,4 +1,6 @@
 // Calls on a slot's record beside a resource: those that end connections and sessions.
+#![tactic(auto)]
+
 ghost use Rattle.std.specs.Prelude.{false, Ok};
 ghost use Rattle.resource.specs.Tables.{numbers};
 ghost use Rattle.protocol.specs.Calls.{close_row, close_all as closed_all, leave as leaving, plug as plugging, pull as pulling, end as ending, expire as expiring, done};

@@ -1,4 +1,6 @@
 // A slot: its record, which is always sound, and every call on it.
+#![tactic(auto)]
+
 ghost use Rattle.std.specs.Prelude.{◌≡◌, length, Ok};
 ghost use Rattle.protocol.specs.Record.{fresh};
 ghost use Rattle.protocol.specs.Sound.{Sound};

@@ -1,4 +1,6 @@
 // Session units (SPDUs).
+#![tactic(auto)]
+
 ghost use Rattle.std.specs.Prelude.{◌≡◌};
 ghost use Rattle.writer.specs.Writing.{laid, two as two_of};
 ghost use Rattle.spdu.specs.Replies.{write_reply as reply_written};

@@ -1,4 +1,6 @@
 // Resource Manager, Application Information and Date-Time as one resource, under a quota.
+#![tactic(auto)]
+
 ghost use Rattle.std.specs.Prelude.{◌≡◌, take};
 ghost use Rattle.resource.specs.Duties.{New};
 ghost use Rattle.standard.specs.Standards.{standard_meaning};

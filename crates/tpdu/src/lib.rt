@@ -1,4 +1,6 @@
 // Transport units (TPDUs).
+#![tactic(auto)]
+
 ghost use Rattle.std.specs.Prelude.{◌≡◌};
 ghost use Rattle.writer.specs.Writing.{laid_object};
 ghost use Rattle.tpdu.specs.Commands.{command_tag, command_body};

@@ -1,5 +1,7 @@
 // The laws of the units on the wire: what is written reads back, in the shortest form, and no reader reads past its bytes.
 // Each function has nothing to do; its contract is a law, which the check then asks a proof of.
+#![tactic(auto)]
+
 ghost use Rattle.units.specs.Laws.{LengthsReadBack, LengthsShortest, CommandsReadBack, RepliesReadBack, LpdusReadBack, BodiesLieWithin, WorkedLengths};
 
 pub fn lengths_read_back()

@@ -1,4 +1,6 @@
 // Writing units into a caller's slice: all of the bytes, or none of them.
+#![tactic(auto)]
+
 ghost use Rattle.std.specs.Prelude.{◌≡◌, true, ◌++◌, length, drop, nat_le};
 ghost use Rattle.std.specs.List.{flat_map};
 ghost use Rattle.writer.specs.Writing.{laid, write_length as length_written, told, laid_object};

@@ -32,7 +32,7 @@ returns-in-Ok g c =
     let bs = part_of c.args.start c.args.n x in
     let on = added (leb (length x.chained + length bs) 2048) c.chain.result (alter k (chaining c.args.start c.args.n)) s (slot_of c.chain.new.self) c.chain.ensures c.if-not-chain.false in
     let heard = last_data M (M.made r) at k c.args.available c.args.start c.args.n s (slot_of c.chain.new.self) (M.share r at) on.1 in
-    record { after = c.in-Ok.ensures.after ∙ heard ∙ passed_by _ no.Data (not_many 2048 x.chained bs on.0); refused = tt; kept = c.hear-session.ensures.kept }
+    record { after = c.in-Ok.ensures.after ∙ heard ∙ passed_by _ no.Data (not_many 2048 x.chained bs on.0); refused = tt; kept = c.hear_session.ensures.kept }
 
 pub returns-in-Err : goal.returns-in-Err
 returns-in-Err g c =
@@ -48,9 +48,9 @@ returns-in-Err g c =
     let on = added (leb (length x.chained + length bs) 2048) c.chain.result (alter k f) s (slot_of c.chain.new.self) c.chain.ensures c.if-not-chain.false in
     let heard = last_data M (M.made r) at k c.args.available c.args.start c.args.n s (slot_of c.chain.new.self) (M.share r at) on.1 in
     let count : held ≡ length x.chained = search rules in
-    let back = c.cut-data.ensures ∙ ap (alter k (λ z. chained_to (take held z.chained) z)) (ap (λ z. z.slot) c.in-Err.ensures.refused ∙ on.1) ∙ undo k f (λ z. chained_to (take held z.chained) z) s (undo_data c.args.start c.args.n held x count) in
+    let back = c.cut_data.ensures ∙ ap (alter k (λ z. chained_to (take held z.chained) z)) (ap (λ z. z.slot) c.in-Err.ensures.refused ∙ on.1) ∙ undo k f (λ z. chained_to (take held z.chained) z) s (undo_data c.args.start c.args.n held x count) in
     record {
       after = c.in-Err.ensures.after ∙ heard ∙ passed_by _ no.Data (not_many 2048 x.chained bs on.0);
       refused = λ i. record { slot = back i; share = (c.in-Err.ensures.refused i).share };
-      kept = c.hear-session.ensures.kept;
+      kept = c.hear_session.ensures.kept;
     }

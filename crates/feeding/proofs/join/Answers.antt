@@ -58,7 +58,7 @@ returns-in-Ok g c =
     let on = added (leb (length x.fragments + length bs) 1024) c.join.result (alter k (joining bs)) st.slot (slot_of c.join.new.self) c.join.ensures c.if-not-join.false in
     let took = c.in-Ok.ensures.after ∙ ap (λ s. whole M made at k (record { slot = s; share = st.share })) on.1 in
     let told = ap (λ z. then z (serve done)) took ∙ ap (λ b. joined M made at k b st1) (sym c.if-more.false) ∙ passed_by _ no.Fragments (not_many 1024 x.fragments bs on.0) in
-    record { answer = ap answer_of told; after = ap (stand_of st) told; kept = c.take-unit.ensures.kept }
+    record { answer = ap answer_of told; after = ap (stand_of st) told; kept = c.take_unit.ensures.kept }
 
 pub returns-in-Err : goal.returns-in-Err
 returns-in-Err g c =
@@ -79,5 +79,5 @@ returns-in-Err g c =
     record {
       answer = ap answer_of told;
       after = (λ i. record { slot = back i; share = (c.in-Err.ensures.refused i).share }) ∙ ap (stand_of st) told;
-      kept = c.take-unit.ensures.kept;
+      kept = c.take_unit.ensures.kept;
     }

@@ -3,4 +3,4 @@ use Rattle.lpdu.proofs.Behind.{put_behind}
 use Rattle.lpdu.proofs.put_lpdu.Goals as goal
 
 pub returns : goal.returns
-returns c = put_behind (c.args.id ∷ c.args.mark ∷ c.args.fragment.now) c.args.out.now c.put-two.new.out c.args.at c.put-two.result c.requires c.put-two.ensures
+returns c = put_behind (c.args.id ∷ c.args.mark ∷ c.args.fragment.now) c.args.out.now c.put_two.new.out c.args.at c.put_two.result c.requires c.put_two.ensures

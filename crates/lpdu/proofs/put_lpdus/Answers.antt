@@ -17,8 +17,8 @@ Next id most k from bs out was at = Goes_on ((id ∷ more ∷ take k (drop from 
 next_of : (id most k from : ℕ) (bs out was : List ℕ) (at : ℕ) → 1 ≤ most → k ≡ most → most < length bs - from → Goes_on (cut_bytes id most (drop from bs)) (cut_bytes id most bs) out was at → Next id most k from bs out was at
 next_of id most k from bs out was at m e lt g = subst (λ r. Goes_on r (cut_bytes id most bs) out was at) (next_more id most from k bs m e lt) g
 
-pub put-lpdu-requires : goal.put-lpdu-requires
-put-lpdu-requires c =
+pub put_lpdu-requires : goal.put_lpdu-requires
+put_lpdu-requires c =
     let bs = c.args.tpdu.now in
     let most = c.args.most in
     let from = c.loop-from.from in
@@ -41,13 +41,13 @@ loop-from-preserved c =
     let room = leb-true (length (cut_bytes c.args.id most bs)) (length c.args.out.now) (sym c.requires.room) in
     let long : length (take k (drop from bs)) ≡ k = length-take-le k (drop from bs) (omega (arith, length-drop from bs)) in
     let done = next_written piece rest all c.loop-from.out c.args.out.now at (at + (most + 2)) (omega (arith, long)) g (omega (arith, room, c.loop-from.auto.out)) in
-    (omega arith, subst (λ out. Goes_on rest all out c.args.out.now (at + (most + 2))) (sym c.put-lpdu.ensures) done)
+    (omega arith, subst (λ out. Goes_on rest all out c.args.out.now (at + (most + 2))) (sym c.put_lpdu.ensures) done)
 
 last_of : (id most from : ℕ) (bs out was : List ℕ) (at : ℕ) → from < length bs → length bs - from ≤ most → Goes_on (cut_bytes id most (drop from bs)) (cut_bytes id most bs) out was at → Goes_on ((id ∷ last ∷ take (length bs - from) (drop from bs)) ++ []) (cut_bytes id most bs) out was at
 last_of id most from bs out was at lt le g = subst (λ r. Goes_on r (cut_bytes id most bs) out was at) (next_last id most from bs lt le) g
 
-pub put-lpdu-requires-2 : goal.put-lpdu-requires-2
-put-lpdu-requires-2 c =
+pub put_lpdu-requires-2 : goal.put_lpdu-requires-2
+put_lpdu-requires-2 c =
     let bs = c.args.tpdu.now in
     let most = c.args.most in
     let from = c.loop-from.from in
@@ -78,4 +78,4 @@ returns c =
     let room = leb-true (length (cut_bytes c.args.id most bs)) (length c.args.out.now) (sym c.requires.room) in
     let long : length (take (length bs - from) (drop from bs)) ≡ length bs - from = length-take-le (length bs - from) (drop from bs) (omega (arith, length-drop from bs)) in
     let done = next_written piece [] all c.loop-from.out c.args.out.now at n (omega (arith, long)) g (omega (arith, room, c.loop-from.auto.out)) in
-    all_written all c.put-lpdu-2.new.out c.args.out.now n n room refl (subst (λ out. Goes_on [] all out c.args.out.now n) (sym c.put-lpdu-2.ensures) done)
+    all_written all c.put_lpdu-2.new.out c.args.out.now n n room refl (subst (λ out. Goes_on [] all out c.args.out.now n) (sym c.put_lpdu-2.ensures) done)

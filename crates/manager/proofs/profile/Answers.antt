@@ -10,8 +10,8 @@ pub loop-i-preserved : goal.loop-i-preserved
 loop-i-preserved c =
     let js = c.args.identifiers.now in
     let i = c.loop-i.i in (
-      omega (arith, c.with-word-text.ensures.length, c.loop-i.invariant.0),
-      c.with-word-text.ensures.bytes ∙ ap (λ l. l ++ four (get_or js i 0)) c.loop-i.invariant.1 ∙ sym (begun_more js i (search rules)),
+      omega (arith, c.with_word-text.ensures.length, c.loop-i.invariant.0),
+      c.with_word-text.ensures.bytes ∙ ap (λ l. l ++ four (get_or js i 0)) c.loop-i.invariant.1 ∙ sym (begun_more js i (search rules)),
     )
 
 pub returns : goal.returns

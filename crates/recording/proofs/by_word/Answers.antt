@@ -39,4 +39,4 @@ returns-in-115 c =
     let o : get_or xs 2 0 ≡ 111 = search rules in
     let t : get_or xs 3 0 ≡ 116 = search rules in
     let e : word_line xs ≡ plain (slot_of (take (length xs - 4) (drop 4 xs))) = ap word_line (split4 xs (search rules)) ∙ rw (s, l, o, t) in
-    e ∙ ap (λ p. plain (slot_line p)) c.read-slot.ensures ∙ told_slot c.read-slot.result c.line.result (vec_items c.args.bytes.now) c.line.ensures
+    e ∙ ap (λ p. plain (slot_line p)) c.read_slot.ensures ∙ told_slot c.read_slot.result c.line.result (vec_items c.args.bytes.now) c.line.ensures

@@ -6,7 +6,7 @@ use Rattle.recording.proofs.read.Goals as goal
 
 pub loop-c-preserved : goal.loop-c-preserved
 loop-c-preserved c =
-    fold_more read_one (held Word (vec_items c.args.bytes.now)) (held c.loop-c.spot (vec_items c.loop-c.bytes)) (held c.in-ok-spot.spot (vec_items c.feed.new.bytes)) c.args.text.now c.loop-c.c-index 0 c.loop-c-test.true c.loop-c.invariant c.in-ok-spot.ensures
+    fold_more read_one (held Word (vec_items c.args.bytes.now)) (held c.loop-c.spot (vec_items c.loop-c.bytes)) (held c.in_ok-spot.spot (vec_items c.feed.new.bytes)) c.args.text.now c.loop-c.c-index 0 c.loop-c-test.true c.loop-c.invariant c.in_ok-spot.ensures
 
 pub returns : goal.returns
 returns c =

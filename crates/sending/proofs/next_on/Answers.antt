@@ -15,9 +15,9 @@ returns g c =
     let present : true ≡ st.slot.present = search rules in
     let agreed : size ≡ st.slot.size = search rules in
     let in' : (st.slot.conn k).out ≡ false = search rules in
-    let told = next_due M (M.made r) c.args.at k st (due_of k c.in-ok-due.due st) size (length c.args.out.now) (valid_of k (omega arith) (omega arith)) present in' agreed c.in-ok-due.ensures in
+    let told = next_due M (M.made r) c.args.at k st (due_of k c.in_ok-due.due st) size (length c.args.out.now) (valid_of k (omega arith) (omega arith)) present in' agreed c.in_ok-due.ensures in
     record {
-      did = record { answer = c.write-due.ensures.did.answer ∙ ap answer_of told; after = c.write-due.ensures.did.after ∙ ap (stand_of st) told; kept = c.write-due.ensures.did.kept };
-      bytes = c.write-due.ensures.bytes;
-      whose = c.write-due.ensures.whose;
+      did = record { answer = c.write_due.ensures.did.answer ∙ ap answer_of told; after = c.write_due.ensures.did.after ∙ ap (stand_of st) told; kept = c.write_due.ensures.did.kept };
+      bytes = c.write_due.ensures.bytes;
+      whose = c.write_due.ensures.whose;
     }

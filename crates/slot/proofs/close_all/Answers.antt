@@ -21,9 +21,9 @@ loop-number-preserved g c =
     let n = c.loop-number.number in
     let r = c.loop-number.resource in
     let st = stand_at M at c.loop-number.slot r in
-    let here = c.close-row.ensures.after ∙ ap (λ m. close_row M m at c.args.c.number (st.slot.rows n) n st) c.loop-number.invariant.1.made in (
+    let here = c.close_row.ensures.after ∙ ap (λ m. close_row M m at c.args.c.number (st.slot.rows n) n st) c.loop-number.invariant.1.made in (
       ap (close_all M made at c.args.c.number (from (n + 1) (17 - (n + 1)))) here ∙ sym (from_more (λ ns. close_all M made at c.args.c.number ns st) n (omega arith)) ∙ c.loop-number.invariant.0,
-      kept_then M at c.args.resource.now r c.close-row.new.resource c.loop-number.invariant.1 c.close-row.ensures.kept,
+      kept_then M at c.args.resource.now r c.close_row.new.resource c.loop-number.invariant.1 c.close_row.ensures.kept,
     )
 
 pub returns : goal.returns

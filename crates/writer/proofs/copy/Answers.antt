@@ -9,8 +9,8 @@ overflow-add-end c =
     let fits = next_fits (λ x. x.now) c.args.pieces.now c.loop-piece.piece-index c.loop-piece.at (length c.args.out.now) no_piece c.loop-piece-test.true c.loop-piece.invariant.0 c.requires in
     search rules
 
-pub slice-bounds-copy-from-slice-end : goal.slice-bounds-copy-from-slice-end
-slice-bounds-copy-from-slice-end c =
+pub slice-bounds-copy_from_slice-end : goal.slice-bounds-copy_from_slice-end
+slice-bounds-copy_from_slice-end c =
     let fits = next_fits (λ x. x.now) c.args.pieces.now c.loop-piece.piece-index c.loop-piece.at (length c.args.out.now) no_piece c.loop-piece-test.true c.loop-piece.invariant.0 c.requires in
     search rules
 
@@ -24,8 +24,8 @@ loop-piece-preserved c =
     let fits = next_fits (λ x. x.now) ps i at (length c.args.out.now) no_piece c.loop-piece-test.true c.loop-piece.invariant.0 c.requires in
     let next = length_next (λ x. x.now) ps i no_piece c.loop-piece-test.true in (
       omega (arith, next),
-      more_written pre c.copy-from-slice.new.self c.args.out.now c.loop-piece.out at n (at + n - at) c.loop-piece.invariant.0 (sym (ap length c.copy-from-slice.ensures.after)) (omega arith) fits c.loop-piece.invariant.1
-          ∙ ap (λ ys. (pre ++ ys) ++ drop (at + n) c.args.out.now) c.copy-from-slice.ensures.after
+      more_written pre c.copy_from_slice.new.self c.args.out.now c.loop-piece.out at n (at + n - at) c.loop-piece.invariant.0 (sym (ap length c.copy_from_slice.ensures.after)) (omega arith) fits c.loop-piece.invariant.1
+          ∙ ap (λ ys. (pre ++ ys) ++ drop (at + n) c.args.out.now) c.copy_from_slice.ensures.after
           ∙ ap (λ xs. xs ++ drop (at + n) c.args.out.now) (sym (joined_next (λ x. x.now) ps i no_piece c.loop-piece-test.true)),
     )
 

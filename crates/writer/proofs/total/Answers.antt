@@ -16,10 +16,10 @@ both n xs ys e = e ∙ sym (length-append xs ys)
 
 pub returns-then-n-gt65535 : goal.returns-then-n-gt65535
 returns-then-n-gt65535 c =
-    too_many c.in-ok-n.n c.if-n-gt65535.true
-    ∙ ap told (both c.in-ok-n.n c.args.head.now c.args.body.now c.in-ok-n.ensures.1)
+    too_many c.in_ok-n.n c.if-n-gt65535.true
+    ∙ ap told (both c.in_ok-n.n c.args.head.now c.args.body.now c.in_ok-n.ensures.1)
 
 pub returns : goal.returns
 returns c =
-    few_enough c.in-ok-n.n c.if-n-gt65535.false
-    ∙ ap told (both c.in-ok-n.n c.args.head.now c.args.body.now c.in-ok-n.ensures.1)
+    few_enough c.in_ok-n.n c.if-n-gt65535.false
+    ∙ ap told (both c.in_ok-n.n c.args.head.now c.args.body.now c.in_ok-n.ensures.1)

@@ -11,4 +11,4 @@ cut n e p at =
     rw (whole, take_rest p.left n, at)
 
 pub returns : goal.returns
-returns c = cut c.args.n c.saturating-sub.result (place c.args.self.now) c.saturating-sub.ensures
+returns c = cut c.args.n c.saturating_sub.result (place c.args.self.now) c.saturating_sub.ensures

@@ -11,7 +11,7 @@ returns g c =
     let N = g.B.Resource.meaning in
     let p = c.args.self.now in
     let i = c.args.identifier in
-    let matched : c.is-some.result ≡ ours (M.listed (M.made p.first)) i = c.is-some.ensures ∙ ap is_some c.find.ensures in
+    let matched : c.is_some.result ≡ ours (M.listed (M.made p.first)) i = c.is_some.ensures ∙ ap is_some c.find.ensures in
     record {
       matched = matched;
       serves = pair_finds (M.listed (M.made p.first)) (N.listed (N.made p.second)) i ∙ ap (λ b. cond b (finds M p.first i) (finds N p.second i)) (sym matched);

@@ -5,14 +5,14 @@ use Rattle.protocol.specs.Runs.{at}
 use Rattle.player.proofs.Turns.{plays, keeps, no_turn, a_turn, expire_lacks, as_named, spent_turn}
 use Rattle.player.proofs.desk.Desk.expire.Goals as goal
 
-pub returns-in-err-turn : goal.returns-in-err-turn
-returns-in-err-turn g c =
+pub returns-in_err-turn : goal.returns-in_err-turn
+returns-in_err-turn g c =
     let M = g.R.Resource.meaning in
     let law = g.R.Resource.laws in
     let d = c.args.self.now in
-    let e = c.in-err-turn.field-0.0 in
-    let w = no_turn M law d c.args.slot c.args.connection e c.take.new.self.turns c.requires c.in-err-turn.ensures in
-    let p = err_from_is_err_and c.from-residual.result c.from-residual.ensures.1 in
+    let e = c.in_err-turn.field-0.0 in
+    let w = no_turn M law d c.args.slot c.args.connection e c.take.new.self.turns c.requires c.in_err-turn.ensures in
+    let p = err_from_is_err_and c.from_residual.result c.from_residual.ensures.1 in
     rw (p.1, p.2)
     (record {
       played = λ out. expire_lacks M law d.host c.args.slot c.args.connection _ w.told w.why;
@@ -26,10 +26,10 @@ returns g c =
     let d = c.args.self.now in
     let i = c.args.slot in
     let k = c.args.connection in
-    let t = c.in-ok-turn.turn in
+    let t = c.in_ok-turn.turn in
     let ts = c.take.new.self.turns in
     let h' = c.expire.new.self in
-    let w = a_turn M law d i k t ts c.requires c.in-ok-turn.ensures in
+    let w = a_turn M law d i k t ts c.requires c.in_ok-turn.ensures in
     let called = as_named M law d i k t ts w expire (Ok done) h' c.expire.ensures in
     record {
       played = λ out. plays M law (at i (expire k)) (Ok done) (Ok done) d.host h' refl (w.told _) called;

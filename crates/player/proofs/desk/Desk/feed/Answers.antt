@@ -6,14 +6,14 @@ use Rattle.host.specs.View.{Called}
 use Rattle.player.proofs.Turns.{plays, keeps, still, no_turn, a_turn, feed_lacks, as_named, spent_turn, gone_turn, put_back}
 use Rattle.player.proofs.desk.Desk.feed.Goals as goal
 
-pub returns-in-err-turn : goal.returns-in-err-turn
-returns-in-err-turn g c =
+pub returns-in_err-turn : goal.returns-in_err-turn
+returns-in_err-turn g c =
     let M = g.R.Resource.meaning in
     let law = g.R.Resource.laws in
     let d = c.args.self.now in
-    let e = c.in-err-turn.field-0.0 in
-    let w = no_turn M law d c.args.slot c.args.connection e c.take.new.self.turns c.requires c.in-err-turn.ensures in
-    let p = err_from_is_err_and c.from-residual.result c.from-residual.ensures.1 in
+    let e = c.in_err-turn.field-0.0 in
+    let w = no_turn M law d c.args.slot c.args.connection e c.take.new.self.turns c.requires c.in_err-turn.ensures in
+    let p = err_from_is_err_and c.from_residual.result c.from_residual.ensures.1 in
     rw (p.1, p.2)
     (record {
       played = λ out. feed_lacks M law d.host c.args.slot c.args.connection c.args.lpdu.now _ w.told w.why;
@@ -28,10 +28,10 @@ returns-in-Done g c =
     let i = c.args.slot in
     let k = c.args.connection in
     let bs = c.args.lpdu.now in
-    let t = c.in-ok-turn.turn in
+    let t = c.in_ok-turn.turn in
     let ts = c.take.new.self.turns in
     let h' = c.feed.new.self in
-    let w = a_turn M law d i k t ts c.requires c.in-ok-turn.ensures in
+    let w = a_turn M law d i k t ts c.requires c.in_ok-turn.ensures in
     let called = as_named M law d i k t ts w (λ n. feed n bs) (Ok done) h' c.in-Done.ensures.called in
     record {
       played = λ out. plays M law (at i (feed k bs)) (Ok done) (Ok done) d.host h' refl (w.told _) called;
@@ -43,9 +43,9 @@ keep-requires g c =
     let M = g.R.Resource.meaning in
     let law = g.R.Resource.laws in
     let d = c.args.self.now in
-    let t = c.in-ok-turn.turn in
+    let t = c.in_ok-turn.turn in
     let ts = c.take.new.self.turns in
-    let w = a_turn M law d c.args.slot c.args.connection t ts c.requires c.in-ok-turn.ensures in
+    let w = a_turn M law d c.args.slot c.args.connection t ts c.requires c.in_ok-turn.ensures in
     gone_turn M law d c.args.slot c.args.connection t ts w c.in-More.turn c.in-More.ensures.back
 
 pub returns-in-More : goal.returns-in-More
@@ -56,10 +56,10 @@ returns-in-More g c =
     let i = c.args.slot in
     let k = c.args.connection in
     let bs = c.args.lpdu.now in
-    let t = c.in-ok-turn.turn in
+    let t = c.in_ok-turn.turn in
     let ts = c.take.new.self.turns in
     let d' = c.keep.new.self in
-    let w = a_turn M law d i k t ts c.requires c.in-ok-turn.ensures in
+    let w = a_turn M law d i k t ts c.requires c.in_ok-turn.ensures in
     let named = as_named M law d i k t ts w (λ n. feed n bs) (Ok turn_back) c.feed.new.self c.in-More.ensures.called in
     let called = subst (λ h. Called M (at i (feed k bs)) (Ok turn_back) d.host h) (sym c.keep.ensures.host) named in
     let back = put_back M law d i k t ts w c.in-More.turn c.in-More.ensures.back d'.hand.turns c.keep.ensures.hand in
@@ -73,9 +73,9 @@ keep-requires-in-Refused g c =
     let M = g.R.Resource.meaning in
     let law = g.R.Resource.laws in
     let d = c.args.self.now in
-    let t = c.in-ok-turn.turn in
+    let t = c.in_ok-turn.turn in
     let ts = c.take.new.self.turns in
-    let w = a_turn M law d c.args.slot c.args.connection t ts c.requires c.in-ok-turn.ensures in
+    let w = a_turn M law d c.args.slot c.args.connection t ts c.requires c.in_ok-turn.ensures in
     gone_turn M law d c.args.slot c.args.connection t ts w c.in-Refused.turn c.in-Refused.ensures.back
 
 pub returns-in-Refused : goal.returns-in-Refused
@@ -86,10 +86,10 @@ returns-in-Refused g c =
     let i = c.args.slot in
     let k = c.args.connection in
     let bs = c.args.lpdu.now in
-    let t = c.in-ok-turn.turn in
+    let t = c.in_ok-turn.turn in
     let ts = c.take.new.self.turns in
     let d' = c.keep-in-Refused.new.self in
-    let w = a_turn M law d i k t ts c.requires c.in-ok-turn.ensures in
+    let w = a_turn M law d i k t ts c.requires c.in_ok-turn.ensures in
     let named = as_named M law d i k t ts w (λ n. feed n bs) (Err c.in-Refused.e) c.feed.new.self c.in-Refused.ensures.called in
     let called = subst (λ h. Called M (at i (feed k bs)) (Err c.in-Refused.e) d.host h) (sym c.keep-in-Refused.ensures.host) named in
     let back = put_back M law d i k t ts w c.in-Refused.turn c.in-Refused.ensures.back d'.hand.turns c.keep-in-Refused.ensures.hand in

@@ -8,20 +8,20 @@ use Rattle.player.specs.Hands.{place}
 use Rattle.player.proofs.Turns.{plays, still, changes, tie, free_turn, next_in}
 use Rattle.player.proofs.desk.Desk.next.Goals as goal
 
-pub returns-in-err-length : goal.returns-in-err-length
-returns-in-err-length g c =
+pub returns-in_err-length : goal.returns-in_err-length
+returns-in_err-length g c =
     let M = g.R.Resource.meaning in
     let law = g.R.Resource.laws in
     let h = c.args.self.now.host in
     let h' = c.next.new.self in
     let a = next c.args.connection (length c.args.out.now) in
-    let e = c.in-err-length.field-0.0 in
-    let p = err_from_is_err_and c.from-residual.result c.from-residual.ensures.1 in
+    let e = c.in_err-length.field-0.0 in
+    let p = err_from_is_err_and c.from_residual.result c.from_residual.ensures.1 in
     rw (p.1, p.2)
     (record {
-      played = plays M law (at c.args.slot a) _ _ h h' refl refl c.in-err-length.ensures.called;
-      bytes = c.in-err-length.ensures.bytes;
-      tied = still M law c.args.self.now (record { host = h'; hand = c.args.self.now.hand }) c.args.slot a _ refl (λ k o. refl) c.in-err-length.ensures.called c.requires;
+      played = plays M law (at c.args.slot a) _ _ h h' refl refl c.in_err-length.ensures.called;
+      bytes = c.in_err-length.ensures.bytes;
+      tied = still M law c.args.self.now (record { host = h'; hand = c.args.self.now.hand }) c.args.slot a _ refl (λ k o. refl) c.in_err-length.ensures.called c.requires;
     })
 
 pub returns-in-default : goal.returns-in-default
@@ -31,11 +31,11 @@ returns-in-default g c =
     let h = c.args.self.now.host in
     let h' = c.next.new.self in
     let a = next c.args.connection (length c.args.out.now) in
-    let front = take c.in-ok-length.field-0.length c.next.new.out in
-    let called = called_as M law (at c.args.slot a) (Ok (wrote front (is_some c.in-ok-length.field-0.turn))) (Ok (wrote front false)) h h' (ap (λ o. Ok (wrote front (is_some o))) c.in-default.is) c.in-ok-length.ensures.called in
+    let front = take c.in_ok-length.field-0.length c.next.new.out in
+    let called = called_as M law (at c.args.slot a) (Ok (wrote front (is_some c.in_ok-length.field-0.turn))) (Ok (wrote front false)) h h' (ap (λ o. Ok (wrote front (is_some o))) c.in-default.is) c.in_ok-length.ensures.called in
     record {
       played = plays M law (at c.args.slot a) (Ok (wrote front false)) (Ok (wrote front false)) h h' refl refl called;
-      bytes = c.in-ok-length.ensures.bytes;
+      bytes = c.in_ok-length.ensures.bytes;
       tied = still M law c.args.self.now (record { host = h'; hand = c.args.self.now.hand }) c.args.slot a (Ok (wrote front false)) refl (λ k o. refl) called c.requires;
     }
 
@@ -43,9 +43,9 @@ pub keep-requires : goal.keep-requires
 keep-requires g c =
     let M = g.R.Resource.meaning in
     let law = g.R.Resource.laws in
-    let names = subst (Names c.args.slot c.args.connection) c.in-Some.is c.in-ok-length.ensures.whose in
+    let names = subst (Names c.args.slot c.args.connection) c.in-Some.is c.in_ok-length.ensures.whose in
     free_turn M law c.args.self.now c.in-Some.turn c.args.slot c.args.connection names.0 names.1
-    (next_in M law c.args.self.now.host c.args.slot c.args.connection (length c.args.out.now) _ c.in-ok-length.ensures.called.answers) c.requires
+    (next_in M law c.args.self.now.host c.args.slot c.args.connection (length c.args.out.now) _ c.in_ok-length.ensures.called.answers) c.requires
 
 pub returns : goal.returns
 returns g c =
@@ -57,14 +57,14 @@ returns g c =
     let t = c.in-Some.turn in
     let i = c.args.slot in
     let k = c.args.connection in
-    let front = take c.in-ok-length.field-0.length c.next.new.out in
-    let named = called_as M law (at i a) (Ok (wrote front (is_some c.in-ok-length.field-0.turn))) (Ok (wrote front true)) d.host c.next.new.self (ap (λ o. Ok (wrote front (is_some o))) c.in-Some.is) c.in-ok-length.ensures.called in
+    let front = take c.in_ok-length.field-0.length c.next.new.out in
+    let named = called_as M law (at i a) (Ok (wrote front (is_some c.in_ok-length.field-0.turn))) (Ok (wrote front true)) d.host c.next.new.self (ap (λ o. Ok (wrote front (is_some o))) c.in-Some.is) c.in_ok-length.ensures.called in
     let called = subst (λ h. Called M (at i a) (Ok (wrote front true)) d.host h) (sym c.keep.ensures.host) named in
-    let names = subst (Names i k) c.in-Some.is c.in-ok-length.ensures.whose in
+    let names = subst (Names i k) c.in-Some.is c.in_ok-length.ensures.whose in
     let where' : place t.slot.number t.connection.number ≡ place i k = λ j. place (names.0 j) (names.1 j) in
     record {
       played = plays M law (at i a) (Ok (wrote front true)) (Ok (wrote front true)) d.host d'.host refl refl called;
-      bytes = c.in-ok-length.ensures.bytes;
+      bytes = c.in_ok-length.ensures.bytes;
       tied = changes M law d d' i k a (Ok (wrote front true)) (Some t) true (subst (λ n. 1 ≤ n) names.1 t.connection.low) (subst (λ n. n ≤ 2) names.1 t.connection.high)
           (subst (λ p. p < length d.hand.turns) where' c.keep.ensures.inside) (c.keep.ensures.hand ∙ ap (λ p. set d.hand.turns p (Some t)) where') (λ n o. refl) (tie i k t true refl names.0 names.1) called c.requires;
     }

@@ -4,4 +4,4 @@ use Rattle.record.proofs.Rows.{conn_write}
 use Rattle.record.proofs.slots.Record.hear_all.Goals as goal
 
 pub returns : goal.returns
-returns c = conn_write c.args.self.now c.args.c.number c.index-self-c.result c.hear-all.new.self (heard c.args.available []) (omega arith) (search rules) c.hear-all.ensures
+returns c = conn_write c.args.self.now c.args.c.number c.index-self-c.result c.hear_all.new.self (heard c.args.available []) (omega arith) (search rules) c.hear_all.ensures

@@ -12,11 +12,11 @@ returns-in-Ok g c =
     let front = take c.in-Ok.sent.length c.next.new.out in
     let sent = c.in-Ok.sent.turn in
     record {
-      called = called_as M g.R.Resource.laws (at c.args.slot.number a) (Ok (wrote front (is_some sent))) (Ok (wrote front (is_some c.hand-out.result))) _ _
-          (ap (λ t. Ok (wrote front t)) (handed c.args.slot sent c.hand-out.result c.hand-out.ensures))
+      called = called_as M g.R.Resource.laws (at c.args.slot.number a) (Ok (wrote front (is_some sent))) (Ok (wrote front (is_some c.hand_out.result))) _ _
+          (ap (λ t. Ok (wrote front t)) (handed c.args.slot sent c.hand_out.result c.hand_out.ensures))
           (called_at M g.R.Resource.laws c.args.self.now c.args.slot.number c.get.result a (Ok (wrote front (is_some sent))) c.index-self-get.result c.next.new.self c.args.self.now.resource c.get.ensures (omega arith) (search rules) c.in-Ok.ensures.did);
       bytes = c.in-Ok.ensures.bytes;
-      whose = names c.args.slot c.args.connection sent c.hand-out.result c.hand-out.ensures c.in-Ok.ensures.whose;
+      whose = names c.args.slot c.args.connection sent c.hand_out.result c.hand_out.ensures c.in-Ok.ensures.whose;
     }
 
 pub returns-in-Err : goal.returns-in-Err
