@@ -1,9 +1,9 @@
 -- Pieces one after another, and those of them that a loop has passed.
-use Rattle.std.proofs.Common.{◌≡◌, ℕ, zero, suc, ◌+◌, ◌-◌, ◌<◌, ◌≤◌, true, leb, List, [], ◌∷◌, ◌++◌, length, get_or, take, drop, sym, refl, ap, ◌∙◌, arith, Bor}
+use Rattle.std.proofs.Common.{◌≡◌, ℕ, ◌+◌, ◌<◌, ◌≤◌, true, leb, List, [], ◌∷◌, ◌++◌, length, get_or, take, drop, sym, refl, ap, ◌∙◌, arith, Bor}
 use borrow.Rule.Slice.PartMut.{put_mid}
 use Rattle.std.proofs.lemmas.Bool.{leb-true}
 use Rattle.std.specs.List.{flat_map}
-use Rattle.std.proofs.lemmas.List.{append_assoc, length-append, length-drop, take_more, take-append-drop, flat_map_more, take_at, drop-drop, drop_at}
+use Rattle.std.proofs.lemmas.List.{append_assoc, length-append, take_more, take-append-drop, flat_map_more, take_at, drop-drop, drop_at}
 
 -- what stands where there is no piece
 abbrev pub no_piece : Bor (List ℕ)

@@ -55,8 +55,8 @@ put_lpdu-requires-2 c =
     let room = leb-true (length (cut_bytes c.args.id most bs)) (length c.args.out.now) (sym c.requires.room) in
     next_fits (c.args.id ∷ last ∷ take (length bs - from) (drop from bs)) [] (cut_bytes c.args.id most bs) c.loop-from.out c.loop-from.at g.inside g.front (omega (arith, room, c.loop-from.auto.out))
 
-pub overflow-add-result-2 : goal.overflow-add-result-2
-overflow-add-result-2 c =
+pub overflow_add-result-2 : goal.overflow_add-result-2
+overflow_add-result-2 c =
     let bs = c.args.tpdu.now in
     let from = c.loop-from.from in
     let g = last_of c.args.id c.args.most from bs c.loop-from.out c.args.out.now c.loop-from.at c.loop-from.invariant.0 c.loop-from-test.false c.loop-from.invariant.1 in

@@ -1,16 +1,16 @@
-use Rattle.std.proofs.Common.{◌≡◌, ◌+◌, ◌-◌, ◌≤◌, true, ◌++◌, length, get_or, take, drop, sym, ap, ◌∙◌, arith, rules}
+use Rattle.std.proofs.Common.{◌+◌, ◌-◌, ◌++◌, length, get_or, take, drop, sym, ap, ◌∙◌, arith, rules}
 use Rattle.std.specs.List.{flat_map}
 use Rattle.std.proofs.lemmas.List.{take_all}
 use Rattle.writer.proofs.Pieces.{no_piece, joined_next, length_next, next_fits, more_written}
 use Rattle.writer.proofs.copy.Goals as goal
 
-pub overflow-add-end : goal.overflow-add-end
-overflow-add-end c =
+pub overflow_add-end : goal.overflow_add-end
+overflow_add-end c =
     let fits = next_fits (λ x. x.now) c.args.pieces.now c.loop-piece.piece-index c.loop-piece.at (length c.args.out.now) no_piece c.loop-piece-test.true c.loop-piece.invariant.0 c.requires in
     search rules
 
-pub slice-bounds-copy_from_slice-end : goal.slice-bounds-copy_from_slice-end
-slice-bounds-copy_from_slice-end c =
+pub slice_bounds-copy_from_slice-end : goal.slice_bounds-copy_from_slice-end
+slice_bounds-copy_from_slice-end c =
     let fits = next_fits (λ x. x.now) c.args.pieces.now c.loop-piece.piece-index c.loop-piece.at (length c.args.out.now) no_piece c.loop-piece-test.true c.loop-piece.invariant.0 c.requires in
     search rules
 
