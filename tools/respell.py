@@ -59,9 +59,7 @@ def write(path, text):
 
 def pieces(text, comment):
     """The text in turns of code and what is no code: strings and comments."""
-    quiet = r'(?:(?<!\S)' + comment + r'[^\n]*)'
-    if comment == "//":
-        quiet += r'|(?:"(?:\\.|[^"\\])*")'
+    quiet = r'(?:(?<!\S)' + comment + r'[^\n]*)|(?:"(?:\\.|[^"\\])*")'
     at = 0
     for it in re.finditer(quiet, text):
         yield True, text[at:it.start()]

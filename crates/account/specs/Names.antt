@@ -76,8 +76,8 @@ object tag =
     (cond (tag == 0x9F8031) (Some (codes "CA info"))
     (cond (tag == 0x9F8032) (Some (codes "CA PMT"))
     (cond (tag == 0x9F8033) (Some (codes "CA PMT reply"))
-    (cond (tag == 0x9F8440) (Some (codes "date_time enquiry"))
-    (cond (tag == 0x9F8441) (Some (codes "date_time"))
+    (cond (tag == 0x9F8440) (Some (codes "date-time enquiry"))
+    (cond (tag == 0x9F8441) (Some (codes "date-time"))
     None)))))))))))
 
 -- what is wrong with a unit above the link

@@ -6,7 +6,7 @@ use Rattle.recording.proofs.read_slot.Goals as goal
 
 pub loop-c-preserved : goal.loop-c-preserved
 loop-c-preserved c =
-    fold_more slot_after Word c.loop-c.place c.next_place.result c.args.text.now c.loop-c.c-index 0 c.loop-c-test.true c.loop-c.invariant (sym c.next_place.ensures)
+    fold_more slot_after Word c.loop-c.place c.next-place.result c.args.text.now c.loop-c.c-index 0 c.loop-c-test.true c.loop-c.invariant (sym c.next-place.ensures)
 
 pub returns : goal.returns
 returns c =
