@@ -14,7 +14,7 @@ use Rattle.protocol.specs.Results.{refuse}
 use Rattle.protocol.specs.Record.{valid, bare, fresh}
 use Rattle.protocol.specs.Sound.{Absent, Sound}
 use Rattle.protocol.specs.Calls.{Act, Served, Stand, act}
-use Rattle.protocol.specs.Runs.{Call, clock, at, time_fits, Shelf, new, answer, answer_of, stand_of, tell, step, run, told_last, clock_alone}
+use Rattle.protocol.specs.Runs.{Call, clock, at, time_fits, Shelf, new, answer_of, stand_of, tell, step, run, told_last, clock_alone}
 use Rattle.protocol.specs.Ledger.{Session, Page, blank, enter, noted}
 use Rattle.protocol.specs.Laws.{session_of, identified, telling, page_after, pages, ledger, Agrees, RecordsSound, SessionsAgree, AbsentAsNew}
 use Rattle.protocol.proofs.Pages.{page_of}

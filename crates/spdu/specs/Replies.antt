@@ -1,5 +1,5 @@
 -- How a host's session units are written.
-use Rattle.std.specs.Prelude.{ℕ, List, [], ◌∷◌, ◌++◌}
+use Rattle.std.specs.Prelude.{ℕ, List, ◌∷◌, ◌++◌}
 use Rattle.writer.specs.Writing.{object, two, four}
 use Rattle.spdu.specs.declared.Reply.{Reply}
 use Rattle.spdu.specs.declared.Reply.TheVariants as say

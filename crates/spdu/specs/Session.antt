@@ -7,7 +7,7 @@ use Rattle.spdu.specs.declared.Request.{Request}
 use Rattle.spdu.specs.declared.Request.TheVariants as ask
 use Rattle.spdu.specs.declared.Reply.{Reply}
 use Rattle.spdu.specs.declared.Reply.TheVariants as say
-use Rattle.cursor.specs.Reading.{Place, Placed, start, then, within, byte, number, word, field, rest, finish}
+use Rattle.cursor.specs.Reading.{Place, Placed, start, then, within, byte, number, word, rest, finish}
 use Rattle.spdu.specs.Tags.{session_number, open_session_request, open_session_response, close_session_request, close_session_response}
 
 -- nothing may follow what was read
