@@ -1,7 +1,7 @@
 -- The bytes of a profile.
-use Rattle.std.proofs.Common.{◌≡◌, ℕ, ◌+◌, ◌*◌, ◌<◌, ◌≤◌, min, true, false, cond, ltb, leb, List, [], ◌∷◌, ◌++◌, length, get_or, take, None, sym, refl, ap, ◌∙◌, subst, ⊎_elim, arith}
+use Rattle.std.proofs.Common.{◌≡◌, ℕ, ◌+◌, ◌*◌, ◌<◌, ◌≤◌, min, true, false, ltb, leb, List, [], ◌∷◌, ◌++◌, length, get_or, take, None, sym, refl, ap, ◌∙◌, subst, ⊎_elim, arith}
 use Rattle.std.proofs.lemmas.Bool.{cases_Bool, leb-true, leb-false, lt-ltb, cond-true}
-use Rattle.std.proofs.lemmas.List.{append-nil, append_assoc, take_all, take-take, take_more, length-take}
+use Rattle.std.proofs.lemmas.List.{take_all, take-take, take_more, length-take}
 use Rattle.apdu.specs.declared.Apdu.{Apdu}
 use Rattle.writer.specs.Writing.{four}
 use Rattle.resource.specs.Tags as tag

@@ -1,5 +1,5 @@
 -- What Resource Manager is: it is made with identifiers, and notes which sessions sent a profile.
-use Rattle.std.specs.Prelude.{ℕ, Bool, List, [], take, slice_index_or}
+use Rattle.std.specs.Prelude.{ℕ, List, take, slice_index_or}
 use Rattle.resource.specs.Tags as tag
 use Rattle.resource.specs.Named.{manager, object_of, words}
 use Rattle.resource.specs.NamedLaws.{manager_orderly}

@@ -1,8 +1,8 @@
 -- What a resource of some kind means.
-use Rattle.std.specs.Prelude.{Bool, not, ◌&&◌, List, [], ◌∷◌, ℕ, get_or}
+use Rattle.std.specs.Prelude.{Bool, not, ◌&&◌, [], ◌∷◌, ℕ, get_or}
 use Rattle.resource.specs.Meaning.{Meaning}
 use Rattle.resource.specs.Lawful.{Lawful, nameable}
-use Rattle.resource.specs.Plain.{Plain, Keep, keep, plain}
+use Rattle.resource.specs.Plain.{Keep, keep, plain}
 use Rattle.resource.specs.PlainLaws.{plain_lawful}
 use Rattle.marks.specs.declared.Marks.{Marks}
 use Rattle.marks.specs.Marked.{marked}

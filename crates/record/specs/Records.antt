@@ -1,5 +1,5 @@
 -- A slot's record in the code, as the definitions have it.
-use Rattle.std.specs.Prelude.{ℕ, zero, suc, Bool, false, List, map, is_some, Some, None, Option, slice_index_or}
+use Rattle.std.specs.Prelude.{ℕ, zero, suc, false, List, map, is_some, Some, None, Option, slice_index_or}
 use Rattle.protocol.specs.declared.State.TheVariants.{Idle}
 use Rattle.protocol.specs.declared.Row.{Row}
 use Rattle.protocol.specs.Record.{Slot, Conn, bare, with_conn}

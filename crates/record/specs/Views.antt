@@ -1,5 +1,5 @@
 -- What the code's record says, as the definitions have it.
-use Rattle.std.specs.Prelude.{ℕ, List, ◌++◌, take, drop, Option}
+use Rattle.std.specs.Prelude.{ℕ, List, ◌++◌, take, drop}
 use Rattle.piece.specs.declared.Piece.{Piece}
 use Rattle.piece.specs.Options.{map_option}
 use Rattle.spdu.specs.Views.{map_reply}

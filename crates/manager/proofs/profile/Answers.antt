@@ -3,7 +3,7 @@ use Rattle.writer.specs.Writing.{four}
 use Rattle.text.specs.Texts.{text}
 use Rattle.piece.specs.Objects.{IsObject}
 use Rattle.manager.specs.Kinds.{announcing}
-use Rattle.manager.proofs.Profiles.{begun, begun_more, begun_all, announcing_object}
+use Rattle.manager.proofs.Profiles.{begun_more, begun_all, announcing_object}
 use Rattle.manager.proofs.profile.Goals as goal
 
 pub loop-i-preserved : goal.loop-i-preserved

@@ -1,7 +1,6 @@
-use Rattle.std.proofs.Common.{◌≡◌, ◌+◌, ◌-◌, sym, ap, ◌∙◌, arith}
+use Rattle.std.proofs.Common.{◌+◌, ◌-◌, sym, ap, ◌∙◌, arith}
 use Rattle.resource.specs.Tables.{from}
 use Rattle.protocol.specs.Calls.{close_row, close_all}
-use Rattle.record.specs.Records.{slot_of}
 use Rattle.record.proofs.Rows.{numbered, from_more, from_none}
 use Rattle.slot.specs.Stand.{stand_at}
 use Rattle.slot.proofs.Kept.{kept_same, kept_then}

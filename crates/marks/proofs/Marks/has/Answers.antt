@@ -1,4 +1,4 @@
-use Rattle.std.proofs.Common.{arith, rules}
+use Rattle.std.proofs.Common.{rules}
 use Rattle.marks.proofs.Places.{marked_at, marked_out}
 use Rattle.marks.proofs.Marks.has.Goals as goal
 

@@ -1,4 +1,4 @@
-use Rattle.std.proofs.Common.{◌≡◌, cond, is_some, sym, ap, ◌∙◌, rules}
+use Rattle.std.proofs.Common.{◌≡◌, cond, is_some, sym, ap, ◌∙◌}
 use Rattle.resource.specs.Duties.{finds}
 use Rattle.resource.specs.Pair.{ours}
 use Rattle.resource.specs.PairLists.{pair_finds}

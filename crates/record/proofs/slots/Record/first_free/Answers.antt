@@ -1,4 +1,4 @@
-use Rattle.std.proofs.Common.{◌≡◌, ℕ, Bool, not, is_some, sym, ap, ◌∙◌, arith}
+use Rattle.std.proofs.Common.{ℕ, Bool, not, is_some, sym, ap, ◌∙◌, arith}
 use Rattle.resource.specs.Tables.{first}
 use Rattle.record.specs.Records.{slot_of}
 use Rattle.record.proofs.Rows.{numbered, first_here, first_later, first_none}

@@ -1,4 +1,4 @@
-use Rattle.std.proofs.Common.{◌≡◌, ℕ, Bool, sym, ap, ◌∙◌, arith}
+use Rattle.std.proofs.Common.{ℕ, Bool, sym, ap, ◌∙◌, arith}
 use Rattle.protocol.specs.Record.{greets}
 use Rattle.resource.specs.Tables.{first}
 use Rattle.record.specs.Records.{slot_of}

@@ -1,4 +1,4 @@
-use Rattle.std.proofs.Common.{◌≡◌, ap, ◌∙◌}
+use Rattle.std.proofs.Common.{ap, ◌∙◌}
 use Rattle.record.proofs.Rows.{plugs}
 use Rattle.record.proofs.slots.Record.plug.Goals as goal
 

@@ -1,4 +1,4 @@
-use Rattle.std.proofs.Common.{◌≡◌, ap, ◌∙◌, arith, rules}
+use Rattle.std.proofs.Common.{ap, ◌∙◌, arith, rules}
 use Rattle.record.proofs.Rows.{conn_read, pulls}
 use Rattle.record.proofs.slots.Record.pull.Goals as goal
 

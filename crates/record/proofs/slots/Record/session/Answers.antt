@@ -1,4 +1,4 @@
-use Rattle.std.proofs.Common.{◌≡◌, ◌<◌, ◌⊎◌, length, sym, ap, ◌∙◌, rules}
+use Rattle.std.proofs.Common.{◌≡◌, length, rules}
 use Rattle.record.proofs.Rows.{row_in, row_past, not_a_number}
 use Rattle.record.proofs.slots.Record.session.Goals as goal
 
