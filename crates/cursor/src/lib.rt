@@ -2,7 +2,7 @@
 #![tactic(auto)]
 
 ghost use Rattle.std.specs.Prelude.{◌≡◌, ◌≤◌, length};
-ghost use Rattle.cursor.specs.Reading.{start, byte as byte_of, finish as finished, number as number_of_lem, word as word_of, length_field, field as field_of, admits as admitted, rest as rest_of, split, first as first_of};
+ghost use Rattle.cursor.specs.Reading.{start, byte as byte_of, finish as finished, number as number_of, word as word_of, length_field, field as field_of, admits as admitted, rest as rest_of, split, first as first_of};
 ghost use Rattle.cursor.specs.Views.{place, read, read_place, part, first_view};
 
 use crate::fault::LengthFault;
@@ -73,7 +73,7 @@ impl<'a> Cursor<'a> {
 
     // Two bytes, the high one first.
     pub fn number(&mut self) -> Result<u16, LengthFault>
-        ensures { number_of_lem (place self.old) ≡ (read result, place self.new) }
+        ensures { number_of (place self.old) ≡ (read result, place self.new) }
     {
         let high = self.byte()? as u16;
         let low = self.byte()? as u16;

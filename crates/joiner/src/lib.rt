@@ -76,6 +76,6 @@ mod tests {
         assert_eq!(rt; kept.add(&[5]), Err(Refusal::Limit));
         kept.clear();
         assert_eq!(rt; kept.add(&[6]), Ok(()));
-        assert!(rt; kept.bytes() == [6]);
+        assert!(rt; kept.bytes() == [6].as_slice());
     }
 }

@@ -248,7 +248,7 @@ mod tests {
             parse(b"< 01 00  80\t02 01 fF ", &mut bytes)?,
             Line::Lpdu(Direction::FromModule)
         );
-        assert!(rt; bytes.as_slice() == [0x01, 0x00, 0x80, 0x02, 0x01, 0xFF]);
+        assert!(rt; bytes.as_slice() == [0x01, 0x00, 0x80, 0x02, 0x01, 0xFF].as_slice());
         assert_eq!(rt; parse(b">", &mut bytes)?, Line::Lpdu(Direction::FromHost));
         assert!(rt; bytes.is_empty());
         Ok(())

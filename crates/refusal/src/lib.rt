@@ -3,7 +3,7 @@
 
 ghost use Rattle.std.specs.Prelude.{◌≡◌};
 ghost use Rattle.refusal.specs.declared.Refusal.TheVariants.{Link, Transport, Session, Apdu};
-ghost use Rattle.refusal.specs.Numbers.{number as number_of_lem};
+ghost use Rattle.refusal.specs.Numbers.{number as number_of};
 
 use cursor::fault::{LinkFault, ObjectFault, SessionFault, TransportFault};
 
@@ -31,7 +31,7 @@ pub enum Refusal {
 
 impl Refusal {
     pub fn number(self) -> u8
-        ensures { result ≡ number_of_lem self }
+        ensures { result ≡ number_of self }
     {
         match self {
             Refusal::Slot => 1,

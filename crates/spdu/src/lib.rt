@@ -5,7 +5,7 @@ ghost use Rattle.std.specs.Prelude.{◌≡◌};
 ghost use Rattle.writer.specs.Writing.{laid, two as two_of};
 ghost use Rattle.spdu.specs.Replies.{write_reply as reply_written};
 ghost use Rattle.cursor.specs.Reading.{start};
-ghost use Rattle.spdu.specs.Session.{numbered as NumberedOf, request as request_of, opened as opened_of, closed as ClosedOf, reply as reply_of};
+ghost use Rattle.spdu.specs.Session.{numbered as numbered_of, request as request_of, opened as opened_of, closed as closed_of, reply as reply_of};
 ghost use Rattle.cursor.specs.Views.{place};
 ghost use Rattle.spdu.specs.Views.{session, session_request, session_reply, map_reply};
 
@@ -58,7 +58,7 @@ impl<'a> SpduReader<'a> {
 
     // A session's number, alone in its field.
     fn numbered(&mut self) -> Result<u16, SessionFault>
-        ensures { NumberedOf (place self.old.cursor) ≡ (session result, place self.new.cursor) }
+        ensures { numbered_of (place self.old.cursor) ≡ (session result, place self.new.cursor) }
     {
         let mut body = self.cursor.field(Size::Exactly(2))?;
         Ok(body.number()?)
@@ -99,7 +99,7 @@ impl<'a> SpduReader<'a> {
     }
 
     fn closed(&mut self) -> Result<Reply<Part<'a>>, SessionFault>
-        ensures { ClosedOf (place self.old.cursor) ≡ (session_reply result, place self.new.cursor) }
+        ensures { closed_of (place self.old.cursor) ≡ (session_reply result, place self.new.cursor) }
     {
         let mut body = self.cursor.field(Size::Exactly(3))?;
         let status = body.byte()?;

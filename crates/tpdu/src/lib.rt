@@ -5,7 +5,7 @@ ghost use Rattle.std.specs.Prelude.{◌≡◌};
 ghost use Rattle.writer.specs.Writing.{laid_object};
 ghost use Rattle.tpdu.specs.Commands.{command_tag, command_body};
 ghost use Rattle.cursor.specs.Reading.{start};
-ghost use Rattle.tpdu.specs.Transport.{own as owned, bare as bared, data' as data_of, bare_object as bare_object_of, bare_command as bare_command_of, object as object_of, status as status_of, response as response_of, one as one_of_lem, order as ordered, command as command_of};
+ghost use Rattle.tpdu.specs.Transport.{own as owned, bare as bared, data' as data_of, bare_object as bare_object_of, bare_command as bare_command_of, object as object_of, status as status_of, response as response_of, one as one_of, order as ordered, command as command_of};
 ghost use Rattle.cursor.specs.Views.{place};
 ghost use Rattle.tpdu.specs.Views.{transport, transport_place, transport_part, transport_object, transport_response, transport_command, map_command};
 
@@ -201,7 +201,7 @@ impl<'a> TpduReader<'a> {
 
     // An object that has one byte beside the connection.
     fn one(&mut self, id: u8) -> Result<u8, TransportFault>
-        ensures { one_of_lem id (place self.old.cursor) ≡ (transport result, place self.new.cursor) }
+        ensures { one_of id (place self.old.cursor) ≡ (transport result, place self.new.cursor) }
     {
         let mut body = self.own(id, Size::Exactly(2))?;
         Ok(body.byte()?)

@@ -9,22 +9,15 @@ use Rattle.cursor.specs.declared.fault.LinkFault.TheVariants.{Short, Long, Conne
 use Rattle.cursor.specs.declared.Size.{Size}
 use Rattle.cursor.specs.declared.Size.TheVariants.{Exactly, AtLeast}
 use Rattle.cursor.specs.Reading.{Place, Placed, start, past, go_on, then, first, byte_of, byte, number, word, length_field, admits, part_of, field, within, rest, nothing, finish}
-use Rattle.lpdu.specs.declared.Fragment.{Fragment}
-use Rattle.lpdu.specs.Link.{mark, marked, after_mark, after_connection, fragment, read_fragment}
-use Rattle.tpdu.specs.declared.Object.{Object}
+use Rattle.lpdu.specs.Link.{mark, marked, after_mark, after_connection, read_fragment}
 use Rattle.tpdu.specs.declared.Object.TheVariants as obj
-use Rattle.tpdu.specs.declared.Response.{Response}
-use Rattle.tpdu.specs.declared.Command.{Command}
 use Rattle.tpdu.specs.declared.Command.TheVariants as cmd
 use Rattle.tpdu.specs.Tags.{sb, rcv, create_t_c, c_t_c_reply, delete_t_c, d_t_c_reply, request_t_c, new_t_c, t_c_error, t_data_last, t_data_more}
 use Rattle.tpdu.specs.Transport.{after_id, own, bare, data', one, bare_object, bare_command, alone, object, status, response, order, command}
-use Rattle.spdu.specs.declared.Request.{Request}
 use Rattle.spdu.specs.declared.Request.TheVariants as ask
-use Rattle.spdu.specs.declared.Reply.{Reply}
 use Rattle.spdu.specs.declared.Reply.TheVariants as say
 use Rattle.spdu.specs.Tags.{session_number, open_session_request, open_session_response, close_session_request, close_session_response}
 use Rattle.spdu.specs.Session.{numbered, request, opened, closed, reply}
-use Rattle.apdu.specs.declared.Apdu.{Apdu}
 use Rattle.apdu.specs.Tags.{apdu}
 use Rattle.apdu.specs.Application as application
 use Rattle.units.specs.Back.{Lies}

@@ -1,27 +1,24 @@
 -- What is written reads back.
-use Rattle.std.proofs.Common.{◌≡◌, ℕ, zero, suc, ◌+◌, ◌-◌, ◌*◌, ◌/◌, ◌%◌, ◌<◌, ◌≤◌, Bool, true, false, cond, not, ◌&&◌, eqb, ltb, leb, List, [], ◌∷◌, ◌++◌, length, take, drop, Ok, Err, Result, sym, refl, ap, ◌∙◌, arith}
+use Rattle.std.proofs.Common.{◌≡◌, ℕ, zero, suc, ◌+◌, ◌-◌, ◌/◌, ◌%◌, ◌<◌, ◌≤◌, Bool, true, false, cond, ◌&&◌, ltb, leb, List, [], ◌∷◌, ◌++◌, length, take, drop, Ok, Err, Result, refl, ap, ◌∙◌, arith}
 use Rattle.std.specs.List.{flat_map}
-use Rattle.std.proofs.lemmas.Bool.{cond_both, leb-true, leb-false, ltb-true, ltb-false, lt-ltb, le-ltb, le-leb, eq-eqb}
+use Rattle.std.proofs.lemmas.Bool.{cond_both, leb-true, leb-false, le-ltb, le-leb, eq-eqb}
 use Rattle.std.proofs.lemmas.List.{append-nil, take_all, drop_all, take_at, drop_at, length-take, length-drop, take-append-drop}
 use Rattle.cursor.specs.declared.fault.Fault.{Fault}
 use Rattle.cursor.specs.declared.fault.Fault.TheVariants.{Length}
-use Rattle.cursor.specs.declared.fault.LinkFault.{LinkFault}
 use Rattle.cursor.specs.declared.Size.{Size}
-use Rattle.cursor.specs.declared.Size.TheVariants.{Exactly, AtLeast}
+use Rattle.cursor.specs.declared.Size.TheVariants.{AtLeast}
 use Rattle.cursor.specs.Reading.{Place, past, then, byte, length_field, field, admits, part_of, rest, finish}
-use Rattle.writer.specs.Writing.{write_length, object, two, four}
+use Rattle.writer.specs.Writing.{write_length}
 use Rattle.lpdu.specs.Tags.{last, more}
 use Rattle.lpdu.specs.Link.{read_fragment}
-use Rattle.lpdu.specs.Fragments.{cut, lpdus, write_lpdus}
+use Rattle.lpdu.specs.Fragments.{cut}
 use Rattle.tpdu.specs.declared.Command.{Command}
 use Rattle.tpdu.specs.declared.Command.TheVariants as cmd
-use Rattle.spdu.specs.declared.Reply.{Reply}
-use Rattle.spdu.specs.declared.Reply.TheVariants as say
 use Rattle.tpdu.specs.Transport.{after_id}
 use Rattle.tpdu.specs.Commands.{write_command}
 use Rattle.tpdu.specs.Views.{map_command}
 use Rattle.units.specs.Back.{result_map, bytes_of, read_lpdus}
-use Rattle.units.specs.Laws.{LengthsReadBack, LengthsShortest, CommandsReadBack, RepliesReadBack, LpdusReadBack}
+use Rattle.units.specs.Laws.{LengthsReadBack, CommandsReadBack, LpdusReadBack}
 
 pub lengths_back : LengthsReadBack
 lengths_back n end rest h = go (ltb n 0x80) refl (ltb n 0x100) refl

@@ -1,7 +1,7 @@
 -- The laws of the units.
 use Rattle.std.specs.Prelude.{◌≡◌, ℕ, ◌<◌, ◌≤◌, List, [], ◌∷◌, ◌++◌, length, Ok, Err}
 use Rattle.cursor.specs.declared.fault.Fault.TheVariants.{Length}
-use Rattle.cursor.specs.Reading.{Place, Placed, start, past, length_field}
+use Rattle.cursor.specs.Reading.{Placed, start, past, length_field}
 use Rattle.writer.specs.Writing.{write_length}
 use Rattle.lpdu.specs.declared.Fragment.{Fragment}
 use Rattle.lpdu.specs.Link.{read_fragment}

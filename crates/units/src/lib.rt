@@ -255,7 +255,7 @@ mod tests {
             return Err(Fail::new("data"));
         };
         assert_eq!(rt; data.offset, 4);
-        assert!(rt; data.bytes == [0x90, 0x02]);
+        assert!(rt; data.bytes == [0x90, 0x02].as_slice());
         let Ok(Request::Data(number, body)) = SpduReader::new(&[
             0x90, 0x02, 0x01, 0x02, 0x9F,
         ]).request() else {
@@ -263,7 +263,7 @@ mod tests {
         };
         assert_eq!(rt; number, 0x0102);
         assert_eq!(rt; body.offset, 4);
-        assert!(rt; body.bytes == [0x9F]);
+        assert!(rt; body.bytes == [0x9F].as_slice());
         Ok(())
     }
 
