@@ -11,15 +11,15 @@ use Rattle.sending.specs.Next.{written}
 use Rattle.sending.proofs.Written.{wrote_some, wrote_none}
 use Rattle.sending.proofs.write_due.Goals as goal
 
-pub returns-in-default : goal.returns-in-default
-returns-in-default g c =
+pub returns-in_default : goal.returns-in_default
+returns-in_default g c =
     let M = g.R.Resource.meaning in
     let k = c.args.c.number in
     let r = c.args.resource.now in
     let st = stand_at M c.args.at c.args.slot.now r in
     let d = c.args.due in
     let bs = lpdus k c.args.size.bytes d in
-    let w = wrote_none bs c.args.out.now c.write.new.out c.in-default.ensures in
+    let w = wrote_none bs c.args.out.now c.write.new.out c.in_default.ensures in
     let told = sym (ap (λ t. refuse t no.Room (serve (wrote bs (turn_due d)) (left_due k d st))) w.0) in
     record {
       did = record { answer = ap answer_of told; after = ap (stand_of st) told; kept = kept_same M c.args.at r };

@@ -12,8 +12,8 @@ use Rattle.session.specs.Pass.{passes}
 use Rattle.session.proofs.Objects.{session_passes, passes_same}
 use Rattle.session.proofs.hear_session.Goals as goal
 
-pub returns-in_err-owed : goal.returns-in_err-owed
-returns-in_err-owed g c =
+pub returns-in_err-owed-in-Data : goal.returns-in_err-owed-in-Data
+returns-in_err-owed-in-Data g c =
     let M = g.R.Resource.meaning in
     let r = c.args.resource.now in
     let at = c.args.at in
@@ -24,8 +24,8 @@ returns-in_err-owed g c =
     let chained = (st.slot.conn k).chained in
     let some : eqb (length chained) 0 ≡ false = search rules in
     let read : read_request chained ≡ Ok (ask.Data n (part c.in-Data.body)) = search rules in
-    let passed = c.in_err-owed.ensures.after in
-    let p = err_from_is_err_and c.from_residual-in_err-owed.result c.from_residual-in_err-owed.ensures.1 in
+    let passed = c.in_err-owed-in-Data.ensures.after in
+    let p = err_from_is_err_and c.from_residual-in_err-owed-in-Data.result c.from_residual-in_err-owed-in-Data.ensures.1 in
     rw (p.1, p.2)
     (record {
       after = sym (session_passes M (M.made r) at k n chained (part c.in-Data.body) (hear k c.args.available [] st) _ y some read passed);

@@ -4,9 +4,9 @@ use Rattle.slot.specs.Stand.{stand_at}
 use Rattle.sound.proofs.Stays.{stays}
 use Rattle.sound.proofs.Slot.end.Goals as goal
 
-pub invariant-of-self : goal.invariant-of-self
-invariant-of-self g c =
+pub invariant_of-self : goal.invariant_of-self
+invariant_of-self g c =
     let M = g.R.Resource.meaning in
     let r = c.args.resource.now in
     let at = c.get.result in
-    (stays M g.R.Resource.laws (M.made r) at (end c.args.connection) (stand_at M at c.args.self.now.kept r) (stand_at M at c.end.new.slot c.end.new.resource) (omega arith) c.end.ensures.after c.args.self.now.sound, tt)
+    record { sound = stays M g.R.Resource.laws (M.made r) at (end c.args.connection) (stand_at M at c.args.self.now.kept r) (stand_at M at c.end.new.slot c.end.new.resource) (omega arith) c.end.ensures.after c.args.self.now.sound }

@@ -3,5 +3,5 @@ use Rattle.protocol.specs.Sound.{Sound}
 use Rattle.protocol.proofs.Slots.{fresh_sound}
 use Rattle.sound.proofs.Slot.new.Goals as goal
 
-pub invariant-of-result : goal.invariant-of-result
-invariant-of-result c = (∣ subst Sound (sym c.new.ensures) fresh_sound ∣₁, tt)
+pub invariant_of-result : goal.invariant_of-result
+invariant_of-result c = record { sound = ∣ subst Sound (sym c.new.ensures) fresh_sound ∣₁ }

@@ -24,15 +24,15 @@ returns-in_err-length g c =
       tied = still M law c.args.self.now (record { host = h'; hand = c.args.self.now.hand }) c.args.slot a _ refl (λ k o. refl) c.in_err-length.ensures.called c.requires;
     })
 
-pub returns-in-default : goal.returns-in-default
-returns-in-default g c =
+pub returns-in_default : goal.returns-in_default
+returns-in_default g c =
     let M = g.R.Resource.meaning in
     let law = g.R.Resource.laws in
     let h = c.args.self.now.host in
     let h' = c.next.new.self in
     let a = next c.args.connection (length c.args.out.now) in
     let front = take c.in_ok-length.field-0.length c.next.new.out in
-    let called = called_as M law (at c.args.slot a) (Ok (wrote front (is_some c.in_ok-length.field-0.turn))) (Ok (wrote front false)) h h' (ap (λ o. Ok (wrote front (is_some o))) c.in-default.is) c.in_ok-length.ensures.called in
+    let called = called_as M law (at c.args.slot a) (Ok (wrote front (is_some c.in_ok-length.field-0.turn))) (Ok (wrote front false)) h h' (ap (λ o. Ok (wrote front (is_some o))) c.in_default.is) c.in_ok-length.ensures.called in
     record {
       played = plays M law (at c.args.slot a) (Ok (wrote front false)) (Ok (wrote front false)) h h' refl refl called;
       bytes = c.in_ok-length.ensures.bytes;
