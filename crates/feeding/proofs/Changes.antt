@@ -1,12 +1,12 @@
 -- One connection changed twice, and changed back.
-use Rattle.std.proofs.Common.{◌≡◌, ℕ, ◌+◌, ◌<◌, ◌≤◌, Bool, true, false, not, ltb, leb, List, [], ◌++◌, length, take, Ok, Err, Result, sym, refl, ap, ◌∙◌, ⊎_elim, arith}
+use Rattle.std.proofs.Common.{◌≡◌, ℕ, ◌+◌, ◌<◌, ◌≤◌, Bool, true, false, ltb, leb, List, [], ◌++◌, length, take, Err, Result, sym, refl, ap, ◌∙◌, ⊎_elim}
 use Rattle.std.proofs.lemmas.List.{length-append, take_at}
 use Rattle.std.proofs.lemmas.Bool.{lt-ltb, le-ltb, le-leb, lt-leb, cases_lt}
 use Rattle.resource.specs.Meaning.{Meaning}
 use Rattle.resource.specs.Places.{put_at, put_put, put_same, not_both}
 use Rattle.protocol.specs.Results.{refuse}
 use Rattle.protocol.specs.Record.{Slot, Conn, with_conn, heard, joining}
-use Rattle.protocol.specs.Calls.{Stand, session_unit, hear}
+use Rattle.protocol.specs.Calls.{session_unit, hear}
 use Rattle.record.specs.Adding.{adding}
 use Rattle.record.specs.Records.{alter}
 use Rattle.record.specs.Views.{chaining, chained_to, fragments_to}

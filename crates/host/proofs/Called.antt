@@ -1,15 +1,14 @@
 -- A call to one slot is a call to the host.
-use Rattle.std.proofs.Common.{◌≡◌, ℕ, zero, suc, ◌<◌, Bool, true, false, cond, not, ◌&&◌, eqb, leb, List, [], ◌∷◌, map, length, get_or, set, replicate, Ok, Err, Result, sym, refl, ap, ◌∙◌, arith}
+use Rattle.std.proofs.Common.{◌≡◌, ℕ, zero, suc, ◌<◌, Bool, true, false, cond, not, ◌&&◌, eqb, leb, List, [], map, length, get_or, set, replicate, Ok, Err, Result, sym, refl, ap, ◌∙◌, arith}
 use Rattle.std.proofs.lemmas.Bool.{cond_both, eqb-true, eqb-false, le-ltb, lt-ltb, le-leb, lt-leb}
 use Rattle.std.proofs.lemmas.List.{get_or-map, map-set, get_or-set_same, get_or-set_other, length-map}
 use Rattle.refusal.specs.declared.Refusal.{Refusal}
 use Rattle.refusal.specs.declared.Refusal.TheVariants as no
 use Rattle.resource.specs.Meaning.{Meaning}
 use Rattle.resource.specs.Lawful.{Lawful}
-use Rattle.resource.specs.Duties.{New}
 use Rattle.protocol.specs.Results.{refuse}
 use Rattle.protocol.specs.Record as def
-use Rattle.protocol.specs.Calls.{Act, Stand, Answer, act, done}
+use Rattle.protocol.specs.Calls.{Act, Answer, act, done}
 use Rattle.protocol.specs.Runs.{Call, at, clock, tell, time_fits, answer, step, answer_of, stand_of}
 use Rattle.protocol.proofs.Stands.{stands, stands_step}
 use Rattle.record.specs.Records.{slot_of}

@@ -1,5 +1,5 @@
 -- A turn that is handed out names the slot and the connection.
-use Rattle.std.proofs.Common.{◌≡◌, ℕ, is_some, Some, None, Option, sym, refl, ap, subst}
+use Rattle.std.proofs.Common.{◌≡◌, ℕ, is_some, Some, None, Option, sym, refl, subst}
 use Rattle.piece.specs.Options.{map_option}
 use Rattle.record.specs.declared.number.SlotNumber.{SlotNumber}
 use Rattle.record.specs.declared.number.ConnectionId.{ConnectionId}

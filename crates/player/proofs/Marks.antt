@@ -1,8 +1,7 @@
 -- The mark of a turn follows the calls and their answers.
-use Rattle.std.proofs.Common.{◌≡◌, ℕ, Bool, true, false, cond, not, ◌&&◌, eqb, ltb, leb, List, [], ◌∷◌, ◌++◌, length, is_ok, Some, None, Ok, Err, Option, Result, sym, refl, ap, ◌∙◌}
+use Rattle.std.proofs.Common.{◌≡◌, ℕ, Bool, true, false, cond, not, ◌&&◌, eqb, ltb, leb, List, [], ◌∷◌, ◌++◌, length, Some, None, Ok, Err, Option, Result, sym, refl, ap, ◌∙◌}
 use Rattle.std.proofs.lemmas.Bool.{eqb-true}
 use Rattle.cursor.specs.declared.fault.Fault.{Fault}
-use Rattle.cursor.specs.declared.fault.LinkFault.{LinkFault}
 use Rattle.cursor.specs.Reading.{Placed}
 use Rattle.lpdu.specs.declared.Fragment.{Fragment}
 use Rattle.lpdu.specs.Link.{read_fragment}
@@ -14,14 +13,13 @@ use Rattle.spdu.specs.declared.Request.{Request}
 use Rattle.spdu.specs.declared.Request.TheVariants as ask
 use Rattle.spdu.specs.Session.{read_request}
 use Rattle.refusal.specs.declared.Refusal.{Refusal}
-use Rattle.resource.specs.Tables.{put}
 use Rattle.resource.specs.Meaning.{Meaning}
 use Rattle.resource.specs.Lawful.{Lawful}
 use Rattle.resource.specs.Places.{put_cases}
 use Rattle.identifier.specs.Identifiers.{older}
 use Rattle.protocol.specs.Record.{valid, hears, joining, free}
 use Rattle.protocol.specs.Sound.{Sound}
-use Rattle.protocol.specs.Calls.{Act, plug, pull, end, next, feed, expire, Answer, done, turn_back, wrote, Stand, Served, act, joined, whole, changed}
+use Rattle.protocol.specs.Calls.{Act, plug, pull, end, next, feed, expire, Answer, done, turn_back, Stand, Served, act, joined, whole, changed}
 use Rattle.protocol.specs.Runs.{answer_of, stand_of}
 use Rattle.protocol.specs.Ledger as led
 use Rattle.protocol.specs.Ledger.{Line, Page, Told, amend, enter}

@@ -1,8 +1,8 @@
 -- A player holds just the turns that are out.
-use Rattle.std.proofs.Common.{◌≡◌, ℕ, zero, suc, ◌+◌, ◌-◌, ◌*◌, ◌<◌, ◌≤◌, Bool, true, false, cond, not, ◌&&◌, ◌||◌, eqb, ltb, leb, ◌⊎◌, List, [], ◌∷◌, ◌++◌, map, length, get_or, take, drop, set, is_some, is_ok, Some, None, Ok, Err, Option, Result, sym, refl, ap, ◌∙◌, subst, inl, inr, ⊎_elim, arith}
+use Rattle.std.proofs.Common.{◌≡◌, ℕ, zero, suc, ◌<◌, ◌≤◌, Bool, true, false, cond, not, ◌&&◌, ◌||◌, eqb, ltb, leb, ◌⊎◌, List, [], ◌∷◌, ◌++◌, map, length, get_or, take, drop, set, is_ok, Some, None, Ok, Err, Option, Result, sym, refl, ap, ◌∙◌, subst, inl, inr, ⊎_elim, arith}
 use mathlib.Core.Bool.{Bool-set}
 use mathlib.Core.Logic.{∥∥₁_elim}
-use Rattle.std.proofs.lemmas.Bool.{eqb-true, eqb-false, eq-eqb, ne_eqb, le-leb, le-ltb, lt-ltb, lt-leb, and_parts, cases_eq, cases_lt, cond_both, ltb-true, ltb-false, leb-true}
+use Rattle.std.proofs.lemmas.Bool.{eqb-true, eqb-false, eq-eqb, ne_eqb, le-leb, le-ltb, lt-leb, and_parts, cases_eq, cases_lt, cond_both, ltb-true, ltb-false, leb-true}
 use Rattle.std.proofs.lemmas.List.{get_or-set_same, get_or-set_other, get_or_past, set-get_or, set-set}
 use Rattle.std.proofs.lemmas.Bool.Decides.{nat_tests}
 use Rattle.refusal.specs.declared.Refusal.{Refusal}
@@ -10,12 +10,11 @@ use Rattle.refusal.specs.declared.Refusal.TheVariants as no
 use Rattle.resource.specs.Meaning.{Meaning}
 use Rattle.resource.specs.Lawful.{Lawful}
 use Rattle.resource.specs.Places.{not_both, no_some}
-use Rattle.protocol.specs.Results.{refuse, then}
+use Rattle.protocol.specs.Results.{refuse}
 use Rattle.protocol.specs.Record.{valid, fresh}
 use Rattle.protocol.specs.Sound.{Sound}
-use Rattle.protocol.specs.Calls.{Act, plug, pull, end, next, feed, expire, expiring, Answer, Stand, Served, act, done}
-use Rattle.protocol.specs.Runs.{Call, clock, at, Shelf, answer, step, answer_of, stand_of, time_fits, tell}
-use Rattle.protocol.specs.Laws.{Stands}
+use Rattle.protocol.specs.Calls.{Act, next, feed, expire, expiring, Answer, Stand, Served, act, done}
+use Rattle.protocol.specs.Runs.{Call, clock, at, answer, step, answer_of, stand_of, time_fits, tell}
 use Rattle.protocol.proofs.Slots.{fresh_sound}
 use Rattle.protocol.proofs.Stands.{stands_step}
 use Rattle.sound.specs.declared.Slot.{Slot}

@@ -1,5 +1,5 @@
 -- The turns that a player holds.
-use Rattle.std.specs.Prelude.{ℕ, ◌+◌, ◌-◌, ◌*◌, Bool, cond, not, List, Some, None, Ok, Err, Option, Result, nat_lt, slice_index_or, slice_set}
+use Rattle.std.specs.Prelude.{ℕ, ◌+◌, ◌-◌, ◌*◌, cond, not, List, Some, None, Ok, Err, Option, Result, nat_lt, slice_index_or, slice_set}
 use Rattle.refusal.specs.declared.Refusal.{Refusal}
 use Rattle.refusal.specs.declared.Refusal.TheVariants as no
 use Rattle.protocol.specs.Record.{valid}

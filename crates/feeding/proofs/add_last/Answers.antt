@@ -1,8 +1,7 @@
-use Rattle.std.proofs.Common.{◌≡◌, ◌+◌, leb, length, take, Ok, sym, ap, ◌∙◌, rules}
+use Rattle.std.proofs.Common.{◌≡◌, ◌+◌, leb, length, take, ap, ◌∙◌, rules}
 use Rattle.refusal.specs.declared.Refusal.TheVariants as no
 use Rattle.record.specs.Records.{slot_of, alter}
 use Rattle.record.specs.Views.{part_of, chaining, chained_to}
-use Rattle.slot.specs.Stand.{stand_at}
 use Rattle.slot.proofs.Kept.{kept_same}
 use Rattle.feeding.proofs.Changes.{added, not_added, too_many, not_many, refused_by, passed_by, undo, undo_data, last_data}
 use Rattle.feeding.proofs.add_last.Goals as goal

@@ -1,9 +1,8 @@
-use Rattle.std.proofs.Common.{◌≡◌, ◌+◌, leb, length, Ok, sym, ap, ◌∙◌}
+use Rattle.std.proofs.Common.{◌+◌, leb, length, Ok, ap, ◌∙◌}
 use Rattle.refusal.specs.declared.Refusal.TheVariants as no
 use Rattle.protocol.specs.Record.{heard}
 use Rattle.record.specs.Records.{slot_of, alter}
 use Rattle.record.specs.Views.{part_of, chaining}
-use Rattle.slot.specs.Stand.{stand_at}
 use Rattle.slot.proofs.Kept.{kept_same}
 use Rattle.feeding.proofs.Changes.{added, not_added, too_many, not_many, refused_by, passed_by, over}
 use Rattle.feeding.proofs.add_more.Goals as goal

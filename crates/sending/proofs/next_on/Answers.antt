@@ -1,4 +1,4 @@
-use Rattle.std.proofs.Common.{◌≡◌, true, false, length, sym, ap, ◌∙◌, arith, rules}
+use Rattle.std.proofs.Common.{◌≡◌, true, false, length, ap, ◌∙◌, arith, rules}
 use Rattle.protocol.specs.Runs.{answer_of, stand_of}
 use Rattle.slot.specs.Stand.{stand_at}
 use Rattle.sending.specs.Due.{due_of}

@@ -1,11 +1,11 @@
-use Rattle.std.proofs.Common.{◌≡◌, false, eqb, [], length, Some, Ok, Err, sym, ap, ◌∙◌, rules}
+use Rattle.std.proofs.Common.{◌≡◌, false, eqb, [], length, Some, Ok, sym, ap, ◌∙◌, rules}
 use Rattle.std.proofs.lemmas.Result.{err_from_is_err_and}
 use Rattle.cursor.specs.Views.{part}
 use Rattle.spdu.specs.declared.Request.TheVariants as ask
 use Rattle.spdu.specs.Session.{read_request}
 use Rattle.protocol.specs.Record.{owing}
 use Rattle.protocol.specs.Calls.{hear}
-use Rattle.record.specs.Records.{slot_of, alter}
+use Rattle.record.specs.Records.{alter}
 use Rattle.record.specs.Views.{owed_of}
 use Rattle.slot.specs.Stand.{stand_at}
 use Rattle.session.specs.Pass.{passes}

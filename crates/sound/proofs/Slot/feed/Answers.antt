@@ -1,4 +1,4 @@
-use Rattle.std.proofs.Common.{arith, rules}
+use Rattle.std.proofs.Common.{arith}
 use Rattle.protocol.specs.Calls.{feed}
 use Rattle.slot.specs.Stand.{stand_at}
 use Rattle.sound.proofs.Stays.{stays}

@@ -1,4 +1,4 @@
-use Rattle.std.proofs.Common.{length, arith, rules}
+use Rattle.std.proofs.Common.{length, arith}
 use Rattle.protocol.specs.Calls.{next}
 use Rattle.slot.specs.Stand.{stand_at}
 use Rattle.sound.proofs.Stays.{stays}

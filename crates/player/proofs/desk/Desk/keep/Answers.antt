@@ -1,4 +1,4 @@
-use Rattle.std.proofs.Common.{◌≡◌, sym, refl, ap, ◌∙◌}
+use Rattle.std.proofs.Common.{sym, refl, ap, ◌∙◌}
 use Rattle.resource.specs.Places.{no_some}
 use Rattle.player.proofs.desk.Desk.keep.Goals as goal
 

@@ -1,4 +1,4 @@
-use Rattle.std.proofs.Common.{◌≡◌, ap, ◌∙◌, rules}
+use Rattle.std.proofs.Common.{ap, ◌∙◌, rules}
 use Rattle.record.specs.Records.{slot_of}
 use Rattle.host.specs.View.{slot_at}
 use Rattle.host.proofs.Called.{slot_read}

@@ -1,4 +1,4 @@
-use Rattle.std.proofs.Common.{◌≡◌, length, take, is_some, Ok, Err, ap, arith, rules}
+use Rattle.std.proofs.Common.{length, take, is_some, Ok, Err, ap, arith, rules}
 use Rattle.protocol.specs.Calls.{next, wrote}
 use Rattle.protocol.specs.Runs.{at}
 use Rattle.host.proofs.Called.{called_at, called_as}
