@@ -5,7 +5,6 @@ use account::hex;
 use apdu::{
     APPLICATION_INFO, Apdu, DATE_TIME_ENQUIRY, PROFILE_CHANGED, PROFILE_ENQUIRY, PROFILE_REPLY,
 };
-use named::Kind;
 use resource::{Reaction, Resource};
 use standard::standard;
 use std::io;

@@ -27,6 +27,7 @@ impl<A: Resource, B: Resource> Pair<A, B> {
     }
 
     // Whether the first has a match.
+    #[tactic(auto, using(resource::specs::PairLists::pair_finds))]
     fn is_first(&self, identifier: u32) -> bool
         ensures matched { result ≡ ours (A.Resource.meaning.listed (A.Resource.meaning.made self.now.first)) identifier }
         ensures serves { finds (paired A.Resource.meaning B.Resource.meaning) self.now identifier ≡ (if result then finds A.Resource.meaning self.now.first identifier else finds B.Resource.meaning self.now.second identifier) }

@@ -7,7 +7,6 @@ mod tests {
     use date_time::DateTime;
     use information::Information;
     use manager::Manager;
-    use named::Kind;
     use piece::Piece;
     use resource::{Reaction, Resource};
     use standard::standard;
