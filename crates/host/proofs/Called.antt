@@ -87,7 +87,7 @@ module _ {S : Type 0} (M : Meaning S) (law : Lawful M) where
 
   -- a call with another name for its answer
   pub called_as : (c : Call) (r r' : Result Answer Refusal) (h h' : Host S) → r ≡ r' → Called M c r h h' → Called M c r' h h'
-  called_as c r r' h h' e k = record { answers = sym e ∙ k.answers; after = k.after; made = k.made; stands = k.stands }
+  called_as c r r' h _ e k = record { answers = sym e ∙ k.answers; after = k.after; made = k.made; stands = k.stands }
 
   pub clock_told : (t : List ℕ) (h : Host S) (s' : S) → time_fits t ≡ true → M.made s' ≡ M.made h.resource → ((s : ℕ) → s < 4 → M.share s' s ≡ M.told (M.made h.resource) t (M.share h.resource s)) → Called M (clock t) (Ok done) h (record { resource = s'; slots = h.slots })
   clock_told t h s' fits made told =

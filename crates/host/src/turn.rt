@@ -8,19 +8,10 @@ use refusal::Refusal;
 pub mod host;
 
 // A turn: a command was written to a slot's connection, and the module's answer, or an expiry, is to come in.
-// It cannot be copied, only `Host::next` makes one, and only `Host::feed` and `Host::expire` spend it.
+// It can neither be copied nor let go: only `Host::next` makes one, and only `Host::feed` and `Host::expire` spend it.
 pub struct Turn {
     slot: SlotNumber,
     connection: ConnectionId,
-}
-
-// No proof can let a turn go unspent.
-impl Drop for Turn {
-    fn drop(self)
-        requires { ⊥ }
-    {
-        self.spend();
-    }
 }
 
 impl Turn {
