@@ -8,7 +8,7 @@ ghost use Rattle.layers.specs.Layers.{paired};
 
 use apdu::Apdu;
 use piece::Piece;
-use resource::{Reaction, Resource};
+use resource::{Readiness, Refused, Resource};
 
 #[derive(Drop)]
 pub struct Pair<A, B> {
@@ -49,7 +49,7 @@ impl<A: Resource, B: Resource> Resource for Pair<A, B> {
         }
     }
 
-    fn ready(&self, slot: u8, identifier: u32) -> u8 {
+    fn ready(&self, slot: u8, identifier: u32) -> Readiness {
         if self.is_first(identifier) {
             self.first.ready(slot, identifier)
         } else {
@@ -93,7 +93,7 @@ impl<A: Resource, B: Resource> Resource for Pair<A, B> {
         identifier: u32,
         number: u8,
         apdu: Apdu<&[u8]>,
-    ) -> Reaction<Piece> {
+    ) -> Result<Option<Piece>, Refused> {
         if self.is_first(identifier) {
             self.first.object(slot, identifier, number, apdu)
         } else {

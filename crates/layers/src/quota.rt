@@ -7,7 +7,7 @@ ghost use Rattle.layers.specs.Layers.{limited};
 
 use apdu::Apdu;
 use piece::Piece;
-use resource::{Reaction, Resource};
+use resource::{Readiness, Refused, Resource};
 
 #[derive(Drop)]
 pub struct Quota<R> {
@@ -41,12 +41,10 @@ impl<R: Resource> Resource for Quota<R> {
         self.below.find(identifier)
     }
 
-    fn ready(&self, slot: u8, identifier: u32) -> u8 {
-        let status = self.below.ready(slot, identifier);
-        if status == 0 && self.below.count(slot) >= self.most() {
-            0xF3
-        } else {
-            status
+    fn ready(&self, slot: u8, identifier: u32) -> Readiness {
+        match self.below.ready(slot, identifier) {
+            Readiness::Ready if self.below.count(slot) >= self.most() => Readiness::Busy,
+            below => below,
         }
     }
 
@@ -72,7 +70,7 @@ impl<R: Resource> Resource for Quota<R> {
         identifier: u32,
         number: u8,
         apdu: Apdu<&[u8]>,
-    ) -> Reaction<Piece> {
+    ) -> Result<Option<Piece>, Refused> {
         self.below.object(slot, identifier, number, apdu)
     }
 

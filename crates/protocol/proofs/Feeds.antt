@@ -14,10 +14,8 @@ use Rattle.spdu.specs.declared.Request.TheVariants as ask
 use Rattle.spdu.specs.declared.Reply.TheVariants as say
 use Rattle.spdu.specs.Session.{read_request}
 use Rattle.apdu.specs.Application.{read_apdu}
-use Rattle.resource.specs.declared.Reaction.{Reaction}
-use Rattle.resource.specs.declared.Reaction.TheVariants.{Refused, Silent, Reply}
 use Rattle.identifier.specs.Identifiers.{lists, found, older}
-use Rattle.resource.specs.Meaning.{Meaning}
+use Rattle.resource.specs.Meaning.{Meaning, Reaction}
 use Rattle.resource.specs.Lawful.{Lawful}
 use Rattle.resource.specs.Places.{put_at, put_off, not_both}
 use Rattle.protocol.specs.declared.State.{State}
@@ -156,11 +154,11 @@ module _ {S : Type 0} (M : Meaning S) (made : M.Made) (at : ℕ) where
           gone = d.gone;
         }
 
-    reacted_follows : (st : Stand M.Share) (c n : ℕ) (x : Reaction (List ℕ)) (a : M.Share) → Live st c → Follows M made at st (shared a st) (page_of st.slot) → ((bs : List ℕ) → x ≡ Reply bs → length bs ≤ 124)
+    reacted_follows : (st : Stand M.Share) (c n : ℕ) (x : Reaction) (a : M.Share) → Live st c → Follows M made at st (shared a st) (page_of st.slot) → ((bs : List ℕ) → x ≡ Ok (Some bs) → length bs ≤ 124)
         → Each (reacted M made at c n x a st) (λ y. Follows M made at st y (page_of st.slot))
-    reacted_follows st c n (Refused e) a l f h = tt
-    reacted_follows st c n Silent a l f h = f
-    reacted_follows st c n (Reply bs) a l f h = then_owe st (shared a st) c _ _ l refl refl (h bs refl) refl f
+    reacted_follows st c n (Err e) a l f h = tt
+    reacted_follows st c n (Ok None) a l f h = f
+    reacted_follows st c n (Ok (Some bs)) a l f h = then_owe st (shared a st) c _ _ l refl refl (h bs refl) refl f
 
     object_follows : (st : Stand M.Share) (c n : ℕ) (body : List ℕ) (x : Option Row) → Live st c → Each (object_asked M made at c n body x st) (λ y. Follows M made at st y (page_of st.slot))
     object_follows st c n body None l = tt

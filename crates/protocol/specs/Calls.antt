@@ -19,11 +19,9 @@ use Rattle.apdu.specs.declared.Apdu.{Apdu}
 use Rattle.apdu.specs.Application.{read_apdu}
 use Rattle.refusal.specs.declared.Refusal.{Refusal}
 use Rattle.refusal.specs.declared.Refusal.TheVariants as no
-use Rattle.resource.specs.declared.Reaction.{Reaction}
-use Rattle.resource.specs.declared.Reaction.TheVariants.{Refused, Silent, Reply}
 use Rattle.resource.specs.Tables.{numbers, first}
 use Rattle.identifier.specs.Identifiers.{found, older}
-use Rattle.resource.specs.Meaning.{Meaning, Outcome}
+use Rattle.resource.specs.Meaning.{Meaning, Reaction, Outcome}
 use Rattle.protocol.specs.declared.State.{State}
 use Rattle.protocol.specs.declared.State.TheVariants.{Idle, CreateDue, Creating, Active, DeleteDue, Deleting, ReplyDue}
 use Rattle.protocol.specs.declared.Row.{Row}
@@ -221,10 +219,10 @@ module _ {S : Type 0} (M : Meaning S) (made : M.Made) (at : ℕ) where
   close_asked c n st = owe c (Say (say.Closed (cond (on c (st.slot.rows n)) 0 0xf0) n)) (close_row c (st.slot.rows n) n st)
 
   -- what the resource makes of an object: a refusal, or a share with a reply that is owed, if any
-  abbrev pub reacted : ℕ → ℕ → Reaction (List ℕ) → M.Share → Stand M.Share → Result (Stand M.Share) Refusal
-  reacted c n (Refused e) a st = Err (no.Resource e)
-  reacted c n Silent a st = Ok (shared a st)
-  reacted c n (Reply bs) a st = Ok (owe c (Say (say.Data n bs)) (shared a st))
+  abbrev pub reacted : ℕ → ℕ → Reaction → M.Share → Stand M.Share → Result (Stand M.Share) Refusal
+  reacted c n (Err e) a st = Err (no.Resource e)
+  reacted c n (Ok None) a st = Ok (shared a st)
+  reacted c n (Ok (Some bs)) a st = Ok (owe c (Say (say.Data n bs)) (shared a st))
 
   abbrev pub react_to : ℕ → ℕ → Outcome M.Share → Stand M.Share → Result (Stand M.Share) Refusal
   react_to c n o st = reacted c n o.reaction o.left st

@@ -2,10 +2,11 @@
 #![tactic(auto)]
 
 ghost use Rattle.std.specs.Prelude.{◌≡◌};
-ghost use Rattle.refusal.specs.declared.Refusal.TheVariants.{Link, Transport, Session, Apdu};
+ghost use Rattle.refusal.specs.declared.Refusal.TheVariants.{Link, Transport, Session, Apdu, Resource};
 ghost use Rattle.refusal.specs.Numbers.{number as number_of};
 
 use cursor::fault::{LinkFault, ObjectFault, SessionFault, TransportFault};
+use resource::Refused;
 
 // In the order of checking. What a unit or the resource says is carried whole.
 #[derive(Clone, Copy, PartialEq, Eq, Debug)]
@@ -84,5 +85,13 @@ impl From<ObjectFault> for Refusal {
 
     fn from(e: ObjectFault) -> Refusal {
         Refusal::Apdu(e)
+    }
+}
+
+impl From<Refused> for Refusal {
+    ghost from_gives = { λ e r. r ≡ Resource e.0 };
+
+    fn from(e: Refused) -> Refusal {
+        Refusal::Resource(e.0)
     }
 }

@@ -1,7 +1,6 @@
 -- What every resource shows.
-use Rattle.std.specs.Prelude.{◌≡◌, ℕ, ◌+◌, Bool, true, false, not, ◌&&◌, ◌||◌, List, Some, None, Option, ◌==◌, nat_le}
+use Rattle.std.specs.Prelude.{◌≡◌, ℕ, ◌+◌, Bool, true, false, not, ◌&&◌, ◌||◌, List, Some, None, Option, ◌==◌, nat_le, Ok, Err}
 use Rattle.apdu.specs.declared.Apdu.{Apdu}
-use Rattle.resource.specs.declared.Reaction.TheVariants.{Refused, Silent, Reply}
 use Rattle.identifier.specs.Identifiers.{lists, Apart}
 use Rattle.piece.specs.Objects.{IsObject}
 use Rattle.resource.specs.Meaning.{Meaning, outcome}
@@ -21,8 +20,8 @@ pub record Lawful {S : Type 0} (M : Meaning S) : Type 0 where
   pub closed_again : (m : M.Made) (slot i n : ℕ) (s : M.Share) → (nameable (M.listed m) slot i n && M.holds m s n i) ≡ false → M.closed m slot i n s ≡ s
   -- an object and the time keep the sessions; a refused object, and one for a session that is not held, alters nothing
   pub object_holds : (m : M.Made) (slot i n : ℕ) (a : Apdu (List ℕ)) (s : M.Share) (k j : ℕ) → M.holds m (M.object m slot i n a s).left k j ≡ M.holds m s k j
-  pub refused_same : (m : M.Made) (slot i n e : ℕ) (a : Apdu (List ℕ)) (s : M.Share) → (M.object m slot i n a s).reaction ≡ Refused e → (M.object m slot i n a s).left ≡ s
-  pub not_held : (m : M.Made) (slot i n : ℕ) (a : Apdu (List ℕ)) (s : M.Share) → (nameable (M.listed m) slot i n && M.holds m s n i) ≡ false → M.object m slot i n a s ≡ outcome Silent s
+  pub refused_same : (m : M.Made) (slot i n e : ℕ) (a : Apdu (List ℕ)) (s : M.Share) → (M.object m slot i n a s).reaction ≡ Err e → (M.object m slot i n a s).left ≡ s
+  pub not_held : (m : M.Made) (slot i n : ℕ) (a : Apdu (List ℕ)) (s : M.Share) → (nameable (M.listed m) slot i n && M.holds m s n i) ≡ false → M.object m slot i n a s ≡ outcome (Ok None) s
   pub told_holds : (m : M.Made) (t : List ℕ) (s : M.Share) (n i : ℕ) → M.holds m (M.told m t s) n i ≡ M.holds m s n i
   -- the count is 0 at a beginning, and follows each opening and closing
   pub opened_count : (m : M.Made) (slot i n : ℕ) (s : M.Share) → (nameable (M.listed m) slot i n && not (M.holds m s n i)) ≡ true → M.count m slot (M.opened m slot i n s) ≡ M.count m slot s + 1
@@ -48,4 +47,4 @@ pub record Lawful {S : Type 0} (M : Meaning S) : Type 0 where
   pub count_known : (m : M.Made) (slot : ℕ) (s : M.Share) → nat_le slot 3 ≡ false → M.count m slot s ≡ 0
   -- what it sends is an application object of at most 124 bytes
   pub greeting_object : (m : M.Made) (i : ℕ) (bs : List ℕ) → M.greeting m i ≡ Some bs → IsObject bs
-  pub reply_object : (m : M.Made) (slot i n : ℕ) (a : Apdu (List ℕ)) (s : M.Share) (bs : List ℕ) → (M.object m slot i n a s).reaction ≡ Reply bs → IsObject bs
+  pub reply_object : (m : M.Made) (slot i n : ℕ) (a : Apdu (List ℕ)) (s : M.Share) (bs : List ℕ) → (M.object m slot i n a s).reaction ≡ Ok (Some bs) → IsObject bs

@@ -1,14 +1,17 @@
 -- What a resource means: all that it keeps for a slot, and what each call answers and leaves.
-use Rattle.std.specs.Prelude.{ℕ, Bool, List, Option}
+use Rattle.std.specs.Prelude.{ℕ, Bool, List, Option, Result}
 use Rattle.apdu.specs.declared.Apdu.{Apdu}
-use Rattle.resource.specs.declared.Reaction.{Reaction}
+
+-- what a resource answers to an object: a reply or none, or a refusal byte
+abbrev pub Reaction : Type 0
+Reaction = Result (Option (List ℕ)) ℕ
 
 -- what an object comes to: the answer, and what is left
 pub record Outcome (A : Type 0) : Type 0 where
-  pub reaction : Reaction (List ℕ)
+  pub reaction : Reaction
   pub left : A
 
-abbrev pub outcome : {A : Type 0} → Reaction (List ℕ) → A → Outcome A
+abbrev pub outcome : {A : Type 0} → Reaction → A → Outcome A
 outcome r a = record { reaction = r; left = a }
 
 -- a resource as functions of what it is made of, which never changes, and of its share of one slot: all that it keeps for the slot

@@ -1,11 +1,9 @@
 -- Resource Manager, Application Information and Date-Time.
-use Rattle.std.specs.Prelude.{ℕ, ◌+◌, ◌/◌, ◌%◌, Bool, true, false, cond, List, [], ◌∷◌, ◌++◌, length, take, Some, None, Option, ◌==◌, slice_index}
+use Rattle.std.specs.Prelude.{ℕ, ◌+◌, ◌/◌, ◌%◌, Bool, true, false, cond, List, [], ◌∷◌, ◌++◌, length, take, Some, None, Option, ◌==◌, slice_index, Ok, Err}
 use Rattle.writer.specs.Writing.{write_length, four}
-use Rattle.resource.specs.declared.Reaction.{Reaction}
-use Rattle.resource.specs.declared.Reaction.TheVariants.{Refused, Silent, Reply}
 use Rattle.resource.specs.Tables.{put}
 use Rattle.resource.specs.Tags as tag
-use Rattle.resource.specs.Meaning.{Outcome, outcome}
+use Rattle.resource.specs.Meaning.{Reaction, Outcome, outcome}
 use Rattle.resource.specs.Plain.{Plain}
 
 -- an application object: the three bytes of its tag, its length and its body
@@ -14,7 +12,7 @@ object_of tag body = tag / 0x10000 ∷ tag / 0x100 % 0x100 ∷ tag % 0x100 ∷ w
 
 -- an object whose length is another than its tag asks for is refused with 01
 abbrev pub if_fits : {N : Type 0} → Bool → N → Outcome N → Outcome N
-if_fits b f o = cond b o (outcome (Refused 1) f)
+if_fits b f o = cond b o (outcome (Err 1) f)
 
 -- identifiers, each in four bytes
 abbrev pub words : List ℕ → List ℕ
@@ -22,8 +20,8 @@ words [] = []
 words (i ∷ js) = four i ++ words js
 
 -- the first profile of a session is answered by a profile change, later ones by none
-abbrev pub profile_answer : Bool → Reaction (List ℕ)
-profile_answer before = cond before Silent (Reply (object_of tag.profile_change []))
+abbrev pub profile_answer : Bool → Reaction
+profile_answer before = cond before (Ok None) (Ok (Some (object_of tag.profile_change [])))
 
 -- Resource Manager announces the first sixteen identifiers that it is made with, and notes which sessions sent a profile
 abbrev pub manager : Plain
@@ -35,10 +33,10 @@ manager = record {
   start = λ _. false;
   begins = λ n f. put n false f;
   reacts = λ own t n a f.
-      cond (a.tag == tag.profile_enq) (if_fits (length a.body == 0) f (outcome (Reply (object_of tag.profile (words (take 16 own)))) f))
+      cond (a.tag == tag.profile_enq) (if_fits (length a.body == 0) f (outcome (Ok (Some (object_of tag.profile (words (take 16 own))))) f))
       (cond (a.tag == tag.profile) (if_fits (length a.body % 4 == 0) f (outcome (profile_answer (f n)) (put n true f)))
-      (cond (a.tag == tag.profile_change) (if_fits (length a.body == 0) f (outcome (Reply (object_of tag.profile_enq [])) f))
-      (outcome Silent f)));
+      (cond (a.tag == tag.profile_change) (if_fits (length a.body == 0) f (outcome (Ok (Some (object_of tag.profile_enq []))) f))
+      (outcome (Ok None) f)));
 }
 
 -- six bytes, the sixth of which tells how many follow
@@ -55,14 +53,14 @@ information = record {
   start = None;
   begins = λ n f. f;
   reacts = λ m t n a f.
-      cond (a.tag == tag.application_info) (if_fits (is_information a.body) f (outcome Silent (Some a.body)))
-      (outcome Silent f);
+      cond (a.tag == tag.application_info) (if_fits (is_information a.body) f (outcome (Ok None) (Some a.body)))
+      (outcome (Ok None) f);
 }
 
 -- the five bytes of the time last told, or none before any
-abbrev pub time_answer : Option (List ℕ) → Reaction (List ℕ)
-time_answer None = Silent
-time_answer (Some t) = Reply (object_of tag.date_time (slice_index t 0 ∷ slice_index t 1 ∷ slice_index t 2 ∷ slice_index t 3 ∷ slice_index t 4 ∷ []))
+abbrev pub time_answer : Option (List ℕ) → Reaction
+time_answer None = Ok None
+time_answer (Some t) = Ok (Some (object_of tag.date_time (slice_index t 0 ∷ slice_index t 1 ∷ slice_index t 2 ∷ slice_index t 3 ∷ slice_index t 4 ∷ [])))
 
 -- Date-Time tells the time
 abbrev pub clock : Plain
@@ -75,5 +73,5 @@ clock = record {
   begins = λ n f. f;
   reacts = λ m t n a f.
       cond (a.tag == tag.date_time_enq) (if_fits (length a.body == 1) f (outcome (time_answer t) f))
-      (outcome Silent f);
+      (outcome (Ok None) f);
 }

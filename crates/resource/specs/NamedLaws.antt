@@ -8,11 +8,9 @@ use Rattle.cursor.specs.declared.Size.TheVariants.{AtLeast}
 use Rattle.cursor.specs.Reading.{Place, Placed, then, past, part_of, admits, field, finish, rest}
 use Rattle.apdu.specs.declared.Apdu.{Apdu}
 use Rattle.apdu.specs.Application.{read_apdu}
-use Rattle.resource.specs.declared.Reaction.{Reaction}
-use Rattle.resource.specs.declared.Reaction.TheVariants.{Refused, Silent, Reply}
 use Rattle.resource.specs.Tags as tag
 use Rattle.piece.specs.Objects.{is_object, IsObject}
-use Rattle.resource.specs.Meaning.{Outcome, outcome}
+use Rattle.resource.specs.Meaning.{Reaction, Outcome, outcome}
 use Rattle.resource.specs.Lawful.{Lawful}
 use Rattle.resource.specs.Plain.{Keep, plain}
 use Rattle.resource.specs.Named.{object_of, if_fits, words, profile_answer, manager, is_information, information, time_answer, clock}
@@ -39,16 +37,16 @@ profile_is body h =
     ∙ ap (λ s. is_ok {T = Apdu Placed} (then s (λ part r. then (finish r, r) (λ _ z. (Ok (record { tag = tag.profile; body = rest part }), z)))).0) (whole_field body (suc (suc (suc (suc n)))) short)
 
 -- a reaction that is no refusal, and whose reply, if it is one, is an object
-abbrev Good : Reaction (List ℕ) → Type 0
-Good (Refused e) = ⊥
-Good Silent = Unit {0}
-Good (Reply bs) = IsObject bs
+abbrev Good : Reaction → Type 0
+Good (Err e) = ⊥
+Good (Ok None) = Unit {0}
+Good (Ok (Some bs)) = IsObject bs
 
 -- an answer that is not a refusal is in order, whatever it notes
-fine_answer : {N : Type 0} (note left : N) (r : Reaction (List ℕ)) → Good r → Fine note (outcome r left)
+fine_answer : {N : Type 0} (note left : N) (r : Reaction) → Good r → Fine note (outcome r left)
 fine_answer note left r g = record { replies = λ bs e. subst Good e g; refuses = λ e h. absurd (subst Good h g) }
 
-fine_refused : {N : Type 0} (note : N) (e : ℕ) → Fine note (outcome (Refused e) note)
+fine_refused : {N : Type 0} (note : N) (e : ℕ) → Fine note (outcome (Err e) note)
 fine_refused note e = record { replies = λ bs h. (let z : ◌≡◌ {A = ℕ} 0 1 = cc in absurd (omega arith)); refuses = λ _ _. refl }
 
 fine_cond : {N : Type 0} (note : N) (b : Bool) (x y : Outcome N) → Fine note x → Fine note y → Fine note (cond b x y)

@@ -1,9 +1,8 @@
 -- A pair of lawful resources is lawful.
-use Rattle.std.specs.Prelude.{◌≡◌, ℕ, ◌+◌, Bool, true, false, cond, not, ◌&&◌, ◌||◌, List, Some, None, ◌==◌, nat_le, refl}
+use Rattle.std.specs.Prelude.{◌≡◌, ℕ, ◌+◌, Bool, true, false, cond, not, ◌&&◌, ◌||◌, List, Some, None, ◌==◌, nat_le, refl, Ok, Err}
 use Rattle.std.proofs.Common.{sym, ap, ◌∙◌, arith}
 use Rattle.std.proofs.lemmas.Bool.{cond_both}
 use Rattle.apdu.specs.declared.Apdu.{Apdu}
-use Rattle.resource.specs.declared.Reaction.TheVariants.{Refused, Silent, Reply}
 use Rattle.identifier.specs.Identifiers.{lists}
 use Rattle.piece.specs.Objects.{IsObject}
 use Rattle.resource.specs.Meaning.{Meaning, Outcome, outcome}
@@ -129,24 +128,24 @@ module _ {S T U : Type 0} (one : U → S) (two : U → T) (M : Meaning S) (N : M
           go false true = refl
           go false false = lawN.object_holds m.1 slot i n a s.1 k j
 
-      refused_same : (e : ℕ) → (P.object m slot i n a s).reaction ≡ Refused e → (P.object m slot i n a s).left ≡ s
+      refused_same : (e : ℕ) → (P.object m slot i n a s).reaction ≡ Err e → (P.object m slot i n a s).left ≡ s
       refused_same e = go (ours (js m) i)
         where
-          go : (x : Bool) → (answering x).reaction ≡ Refused e → (answering x).left ≡ s
+          go : (x : Bool) → (answering x).reaction ≡ Err e → (answering x).left ≡ s
           go true h = λ d. (lawM.refused_same m.0 slot i n e a s.0 h d, s.1)
           go false h = λ d. (s.0, lawN.refused_same m.1 slot i n e a s.1 h d)
 
-      not_held : (nameable (P.listed m) slot i n && P.holds m s n i) ≡ false → P.object m slot i n a s ≡ outcome Silent s
+      not_held : (nameable (P.listed m) slot i n && P.holds m s n i) ≡ false → P.object m slot i n a s ≡ outcome (Ok None) s
       not_held h = go (ours (js m) i) (ap (λ b. b && P.holds m s n i) (sym same_named) ∙ h)
         where
-          go : (x : Bool) → (named x && holding x) ≡ false → answering x ≡ outcome Silent s
+          go : (x : Bool) → (named x && holding x) ≡ false → answering x ≡ outcome (Ok None) s
           go true e = ap (λ o. outcome o.reaction (o.left, s.1)) (lawM.not_held m.0 slot i n a s.0 e)
           go false e = ap (λ o. outcome o.reaction (s.0, o.left)) (lawN.not_held m.1 slot i n a s.1 e)
 
-      reply_object : (bs : List ℕ) → (P.object m slot i n a s).reaction ≡ Reply bs → IsObject bs
+      reply_object : (bs : List ℕ) → (P.object m slot i n a s).reaction ≡ Ok (Some bs) → IsObject bs
       reply_object bs = go (ours (js m) i)
         where
-          go : (x : Bool) → (answering x).reaction ≡ Reply bs → IsObject bs
+          go : (x : Bool) → (answering x).reaction ≡ Ok (Some bs) → IsObject bs
           go true e = lawM.reply_object m.0 slot i n a s.0 bs e
           go false e = lawN.reply_object m.1 slot i n a s.1 bs e
 

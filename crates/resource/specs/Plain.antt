@@ -1,7 +1,6 @@
 -- A resource of one identifier that is always ready.
-use Rattle.std.specs.Prelude.{ℕ, Bool, true, false, cond, not, ◌&&◌, List, [], ◌∷◌, Some, None, Option, ◌==◌, nat_le}
+use Rattle.std.specs.Prelude.{ℕ, Bool, true, false, cond, not, ◌&&◌, List, [], ◌∷◌, Some, None, Option, ◌==◌, nat_le, Ok}
 use Rattle.apdu.specs.declared.Apdu.{Apdu}
-use Rattle.resource.specs.declared.Reaction.TheVariants.{Silent}
 use Rattle.resource.specs.Tables.{put, numbers, tally}
 use Rattle.identifier.specs.Identifiers.{lists}
 use Rattle.resource.specs.Meaning.{Meaning, Outcome, outcome}
@@ -52,7 +51,7 @@ module _ {U : Type 0} (P : Plain) (made : U → P.Made) (share : U → ℕ → K
     count = λ m slot s. cond (nat_le slot 3) (tally s.held numbers) 0;
     opened = λ m slot i n s. cond (nameable own slot i n && not (held_by s n i)) (keep s.time (put n true s.held) (P.begins n s.note)) s;
     closed = λ m slot i n s. cond (nameable own slot i n && held_by s n i) (keep s.time (put n false s.held) s.note) s;
-    object = λ m slot i n a s. cond (nameable own slot i n && held_by s n i) (noting s (P.reacts m s.time n a s.note)) (outcome Silent s);
+    object = λ m slot i n a s. cond (nameable own slot i n && held_by s n i) (noting s (P.reacts m s.time n a s.note)) (outcome (Ok None) s);
     gone = λ m slot s. cond (nat_le slot 3) (keep s.time (λ _. false) P.start) s;
     told = λ m t s. keep (Some t) s.held s.note;
   }

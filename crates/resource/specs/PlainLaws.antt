@@ -1,9 +1,8 @@
 -- A resource of one identifier is lawful, where what it says is in order.
-use Rattle.std.specs.Prelude.{◌≡◌, ℕ, ◌+◌, Bool, true, false, cond, not, ◌&&◌, ◌||◌, leb, List, [], ◌∷◌, Some, None, Option, ◌==◌, nat_le, refl}
+use Rattle.std.specs.Prelude.{◌≡◌, ℕ, ◌+◌, Bool, true, false, cond, not, ◌&&◌, ◌||◌, leb, List, [], ◌∷◌, Some, None, Option, ◌==◌, nat_le, refl, Ok, Err}
 use Rattle.std.proofs.Common.{sym, ap, ◌∙◌, arith}
 use Rattle.std.proofs.lemmas.Bool.{cond_both, eqb-true, eq-eqb, leb-true, and_parts, and_right, not-true, not-false}
 use Rattle.apdu.specs.declared.Apdu.{Apdu}
-use Rattle.resource.specs.declared.Reaction.TheVariants.{Refused, Silent, Reply}
 use Rattle.resource.specs.Tables.{put, numbers, tally}
 use Rattle.identifier.specs.Identifiers.{lists}
 use Rattle.piece.specs.Objects.{IsObject}
@@ -64,8 +63,8 @@ named id slot i n e =
 
 -- an outcome in order, of what was noted before: a reply is an object, and a refusal alters nothing
 pub record Fine {N : Type 0} (note : N) (o : Outcome N) : Type 0 where
-  pub replies : (bs : List ℕ) → o.reaction ≡ Reply bs → IsObject bs
-  pub refuses : (e : ℕ) → o.reaction ≡ Refused e → o.left ≡ note
+  pub replies : (bs : List ℕ) → o.reaction ≡ Ok (Some bs) → IsObject bs
+  pub refuses : (e : ℕ) → o.reaction ≡ Err e → o.left ≡ note
 
 -- what it says must be in order
 pub record Orderly (P : Plain) : Type 0 where
@@ -162,17 +161,17 @@ module _ {U : Type 0} (P : Plain) (made : U → P.Made) (share : U → ℕ → K
   -- an object keeps the numbers held, alters nothing where it is refused, and is answered by the resource
   module _ (good : Orderly P) (m : P.Made) (n : ℕ) (a : Apdu (List ℕ)) (s : Keep P.Note) where
     abbrev answered : Bool → Outcome (Keep P.Note)
-    answered b = cond b (noting P made share s (P.reacts m s.time n a s.note)) (outcome Silent s)
+    answered b = cond b (noting P made share s (P.reacts m s.time n a s.note)) (outcome (Ok None) s)
 
     same_held : (b : Bool) → (answered b).left.held ≡ s.held
     same_held true = refl
     same_held false = refl
 
-    refused_same : (b : Bool) (e : ℕ) → (answered b).reaction ≡ Refused e → (answered b).left ≡ s
+    refused_same : (b : Bool) (e : ℕ) → (answered b).reaction ≡ Err e → (answered b).left ≡ s
     refused_same true e h = ap (keep s.time s.held) ((good.reacts m s.time n a s.note).refuses e h)
     refused_same false e h = refl
 
-    reply_object : (b : Bool) (bs : List ℕ) → (answered b).reaction ≡ Reply bs → IsObject bs
+    reply_object : (b : Bool) (bs : List ℕ) → (answered b).reaction ≡ Ok (Some bs) → IsObject bs
     reply_object true bs h = (good.reacts m s.time n a s.note).replies bs h
     reply_object false bs h = (let z : ◌≡◌ {A = ℕ} 0 1 = cc in absurd (omega arith))
 

@@ -6,18 +6,30 @@ ghost use Rattle.resource.specs.Meaning.{Meaning, outcome};
 ghost use Rattle.resource.specs.Lawful.{Lawful};
 ghost use Rattle.resource.specs.Duties.{finds, readiness, greets, counts, after_opened, after_closed, comes_to, after_gone, after_told, Kept};
 ghost use Rattle.piece.specs.Options.{map_option};
-ghost use Rattle.resource.specs.Views.{sent, said, heard};
+ghost use Rattle.resource.specs.Views.{sent, said, heard, status};
 
 use apdu::Apdu;
 use piece::Piece;
 
-// What a resource answers to an object. B is how a reply is held.
-#[derive(Clone, Copy)]
-pub enum Reaction<B> {
-    Refused(u8),
-    Silent,
-    Reply(B),
+// Whether a session may be opened, by the status byte that tells it.
+#[derive(Clone, Copy, PartialEq, Eq, Debug)]
+pub enum Readiness {
+    Ready = 0x00,
+    Unavailable = 0xF1,
+    Busy = 0xF3,
 }
+
+impl From<Readiness> for u8 {
+    ghost from_gives = { λ r byte. byte ≡ status r };
+
+    fn from(readiness: Readiness) -> u8 {
+        readiness as u8
+    }
+}
+
+// A resource's byte for an object that it refuses.
+#[derive(Clone, Copy, PartialEq, Eq, Debug)]
+pub struct Refused(pub u8);
 
 // A list of identifiers, and for each slot a share: all that the resource keeps for it, with the time last told and the sessions held.
 // A call on one slot leaves what the resource is made of and every other slot's share as they are; only the clock touches all.
@@ -30,9 +42,9 @@ pub trait Resource {
     fn find(&self, identifier: u32) -> Option<u32>
         ensures { result ≡ finds meaning self.now identifier };
 
-    // Whether a session may be opened: 00, F1 or F3.
-    fn ready(&self, slot: u8, identifier: u32) -> u8
-        ensures { result ≡ readiness meaning self.now slot identifier };
+    // Whether a session may be opened.
+    fn ready(&self, slot: u8, identifier: u32) -> Readiness
+        ensures { status result ≡ readiness meaning self.now slot identifier };
 
     // The object that is sent first in a session.
     fn greeting(&self, identifier: u32) -> Option<Piece>
@@ -50,14 +62,14 @@ pub trait Resource {
         ensures share { meaning.share self.new slot ≡ after_closed meaning self.old slot identifier number }
         ensures kept { Kept meaning slot self.old self.new };
 
-    // An object came in a session.
+    // An object came in a session: the reply to it, if there is one.
     fn object(
         &mut self,
         slot: u8,
         identifier: u32,
         number: u8,
         apdu: Apdu<&[u8]>,
-    ) -> Reaction<Piece>
+    ) -> Result<Option<Piece>, Refused>
         ensures answer { outcome (said result) (meaning.share self.new slot) ≡ comes_to meaning self.old slot identifier number (heard apdu.entry) }
         ensures kept { Kept meaning slot self.old self.new };
 

@@ -8,9 +8,7 @@ use Rattle.apdu.specs.declared.Apdu.{Apdu}
 use Rattle.apdu.specs.Application.{read_apdu}
 use Rattle.refusal.specs.declared.Refusal.{Refusal}
 use Rattle.refusal.specs.declared.Refusal.TheVariants as no
-use Rattle.resource.specs.declared.Reaction.{Reaction}
-use Rattle.resource.specs.declared.Reaction.TheVariants.{Refused, Silent, Reply}
-use Rattle.resource.specs.Meaning.{Meaning}
+use Rattle.resource.specs.Meaning.{Meaning, Reaction}
 use Rattle.resource.specs.Lawful.{Lawful}
 use Rattle.resource.specs.Places.{not_both}
 use Rattle.protocol.specs.declared.Row.{Row}
@@ -26,10 +24,10 @@ settle c (Ok None) x st = Ok (shared x st)
 settle c (Ok (Some o)) x st = Ok (owe c o (shared x st))
 
 module _ {S : Type 0} (M : Meaning S) (made : M.Made) (at c n : ℕ) where
-  reacts_settled : (r : Reaction (List ℕ)) (a : M.Share) (st : Stand M.Share) → reacted M made at c n r a st ≡ settle c (owed_for n r) a st
-  reacts_settled (Refused e) a st = refl
-  reacts_settled Silent a st = refl
-  reacts_settled (Reply bs) a st = refl
+  reacts_settled : (r : Reaction) (a : M.Share) (st : Stand M.Share) → reacted M made at c n r a st ≡ settle c (owed_for n r) a st
+  reacts_settled (Err e) a st = refl
+  reacts_settled (Ok None) a st = refl
+  reacts_settled (Ok (Some bs)) a st = refl
 
   reads_settled : (i : ℕ) (r : Result (Apdu Placed) Fault) (st : Stand M.Share)
       → then (fault_of object_fault r) (λ a. react_to M made at c n (M.object made at i n (apdu_of a) st.share) st) ≡ settle c (reads M made at n i r st.share).0 (reads M made at n i r st.share).1 st
@@ -57,10 +55,10 @@ module _ {S : Type 0} (M : Meaning S) (made : M.Made) (at c n : ℕ) where
 
   -- a refused object leaves the share as it was
   module _ (law : Lawful M) where
-    refused_reaction : (r : Reaction (List ℕ)) (e : Refusal) → owed_for n r ≡ Err e → (x : ℕ) × (r ≡ Refused x)
-    refused_reaction (Refused f) e h = (f, refl)
-    refused_reaction Silent e h = (let z : ◌≡◌ {A = ℕ} 0 1 = cc in absurd (omega arith))
-    refused_reaction (Reply bs) e h = (let z : ◌≡◌ {A = ℕ} 0 1 = cc in absurd (omega arith))
+    refused_reaction : (r : Reaction) (e : Refusal) → owed_for n r ≡ Err e → (x : ℕ) × (r ≡ Err x)
+    refused_reaction (Err f) e h = (f, refl)
+    refused_reaction (Ok None) e h = (let z : ◌≡◌ {A = ℕ} 0 1 = cc in absurd (omega arith))
+    refused_reaction (Ok (Some bs)) e h = (let z : ◌≡◌ {A = ℕ} 0 1 = cc in absurd (omega arith))
 
     reads_same : (i : ℕ) (r : Result (Apdu Placed) Fault) (x : M.Share) (e : Refusal) → (reads M made at n i r x).0 ≡ Err e → (reads M made at n i r x).1 ≡ x
     reads_same i (Err f) x e h = refl

@@ -9,9 +9,7 @@ use Rattle.refusal.specs.declared.Refusal.{Refusal}
 use Rattle.refusal.specs.declared.Refusal.TheVariants as no
 use Rattle.piece.specs.declared.Piece.{Piece}
 use Rattle.piece.specs.Options.{map_option}
-use Rattle.resource.specs.declared.Reaction.{Reaction}
-use Rattle.resource.specs.declared.Reaction.TheVariants.{Refused, Silent, Reply}
-use Rattle.resource.specs.Meaning.{Meaning, Outcome}
+use Rattle.resource.specs.Meaning.{Meaning, Reaction, Outcome}
 use Rattle.protocol.specs.declared.Row.{Row}
 use Rattle.protocol.specs.declared.Owed.{Owed}
 use Rattle.protocol.specs.declared.Owed.TheVariants.{Say}
@@ -23,10 +21,10 @@ owes (Ok o) = Ok (map_option owed_of o)
 owes (Err e) = Err e
 
 -- what is owed for what a resource made of an object
-abbrev pub owed_for : ℕ → Reaction (List ℕ) → Result (Option (Owed (List ℕ))) Refusal
-owed_for n (Refused e) = Err (no.Resource e)
-owed_for n Silent = Ok None
-owed_for n (Reply bs) = Ok (Some (Say (say.Data n bs)))
+abbrev pub owed_for : ℕ → Reaction → Result (Option (Owed (List ℕ))) Refusal
+owed_for n (Err e) = Err (no.Resource e)
+owed_for n (Ok None) = Ok None
+owed_for n (Ok (Some bs)) = Ok (Some (Say (say.Data n bs)))
 
 module _ {S : Type 0} (M : Meaning S) (made : M.Made) (at : ℕ) where
   abbrev pub comes : ℕ → Outcome M.Share → Result (Option (Owed (List ℕ))) Refusal × M.Share

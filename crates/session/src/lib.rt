@@ -16,18 +16,14 @@ use protocol::{Owed, Row};
 use record::number::ConnectionId;
 use record::slots::Record;
 use refusal::Refusal;
-use resource::{Reaction, Resource};
+use resource::{Readiness, Resource};
 use slot::close_row;
 use spdu::{Reply, Request, SpduReader};
 
 // The statuses of an open_session_response, and of a close_session_response.
-pub const OPENED: u8 = 0x00;
-
 pub const NO_RESOURCE: u8 = 0xF0;
 
 pub const VERSION_LOWER: u8 = 0xF2;
-
-pub const BUSY: u8 = 0xF3;
 
 pub const CLOSED: u8 = 0x00;
 
@@ -44,12 +40,15 @@ fn open_listed<R: Resource>(
     ensures { Step R.Resource.meaning at (λ made k st. open_by R.Resource.meaning made k c.number listed (R.Resource.meaning.ready made k listed st.share) st) slot.old resource.old slot.new resource.new }
 {
     let status = resource.ready(at, listed);
-    if status != OPENED {
-        slot.owe(c, Owed::Say(Reply::Opened(status, listed, 0)));
+    if status != Readiness::Ready {
+        slot.owe(c, Owed::Say(Reply::Opened(status.into(), listed, 0)));
         return;
     }
     match slot.first_free() {
-        None => slot.owe(c, Owed::Say(Reply::Opened(BUSY, listed, 0))),
+        None => slot.owe(
+            c,
+            Owed::Say(Reply::Opened(Readiness::Busy.into(), listed, 0)),
+        ),
         Some(n) => {
             let row = Row {
                 connection: c.get(),
@@ -58,7 +57,10 @@ fn open_listed<R: Resource>(
             };
             resource.opened(at, listed, n.get());
             slot.set_row(n, Some(row));
-            slot.owe(c, Owed::Say(Reply::Opened(OPENED, listed, n.get() as u16)));
+            slot.owe(
+                c,
+                Owed::Say(Reply::Opened(status.into(), listed, n.get() as u16)),
+            );
         }
     }
 }
@@ -110,11 +112,8 @@ fn pass<R: Resource>(
         tag: read.tag,
         body: read.body.bytes,
     };
-    match resource.object(at, session.row.identifier, session.number.get(), apdu) {
-        Reaction::Refused(byte) => Err(Refusal::Resource(byte)),
-        Reaction::Silent => Ok(None),
-        Reaction::Reply(piece) => Ok(Some(Owed::Say(Reply::Data(number, piece)))),
-    }
+    let reply = resource.object(at, session.row.identifier, session.number.get(), apdu)?;
+    Ok(reply.map(|piece| Owed::Say(Reply::Data(number, piece))))
 }
 
 // All data of the connection, if any, are a session unit.
