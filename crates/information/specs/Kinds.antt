@@ -1,6 +1,6 @@
 -- What Application Information is: it notes what a slot's module last told of itself.
 use Rattle.std.specs.Prelude.{ℕ, List, None, Option, slice_index_or}
-use Rattle.piece.specs.Options.{map_option}
+use Rattle.std.specs.Option.{option_map}
 use Rattle.resource.specs.Named.{information}
 use Rattle.resource.specs.NamedLaws.{information_orderly}
 use Rattle.resource.specs.Meaning.{Meaning}
@@ -11,7 +11,7 @@ use Rattle.named.specs.Shares.{named}
 use Rattle.information.specs.declared.Information.{Information}
 
 abbrev pub kept_for : Information → ℕ → Option (List ℕ)
-kept_for k slot = map_option text (slice_index_or k.latest slot None)
+kept_for k slot = option_map text (slice_index_or k.latest slot None)
 
 abbrev pub information_nature : Nature Information
 information_nature = record {

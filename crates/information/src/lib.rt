@@ -3,7 +3,7 @@
 
 ghost use Rattle.std.specs.Prelude.{◌≡◌, ◌≤◌, true, length};
 ghost use Rattle.resource.specs.Duties.{New};
-ghost use Rattle.piece.specs.Options.{map_option};
+ghost use Rattle.std.specs.Option.{option_map};
 ghost use Rattle.resource.specs.Named.{is_information};
 ghost use Rattle.text.specs.Texts.{text as text_of};
 ghost use Rattle.information.specs.Kinds.{information_nature, information_meaning, kept_for};
@@ -29,7 +29,7 @@ fn is_whole(body: &[u8]) -> bool
 }
 
 fn latest_bytes(latest: &Option<Text>) -> Option<&[u8]>
-    ensures { map_option (λ x. x.now) result ≡ map_option text_of latest.now }
+    ensures { option_map (λ x. x.now) result ≡ option_map text_of latest.now }
 {
     match latest {
         Some(text) => Some(text.bytes()),
@@ -47,7 +47,7 @@ impl Information {
 
     // What is kept for a slot.
     pub fn kept(&self, slot: u8) -> Option<&[u8]>
-        ensures { map_option (λ x. x.now) result ≡ kept_for self.now slot }
+        ensures { option_map (λ x. x.now) result ≡ kept_for self.now slot }
     {
         match self.latest.get(slot as usize) {
             Some(latest) => latest_bytes(latest),

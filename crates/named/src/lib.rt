@@ -4,7 +4,7 @@
 ghost use Rattle.std.specs.Prelude.{◌≡◌, true, ℕ, ◌<◌, ◌≤◌};
 ghost use Rattle.resource.specs.Meaning.{outcome};
 ghost use Rattle.resource.specs.Duties.{New};
-ghost use Rattle.piece.specs.Options.{map_option};
+ghost use Rattle.std.specs.Option.{option_map};
 ghost use Rattle.resource.specs.Views.{sent, said, heard};
 ghost use Rattle.named.specs.Nature.{Nature, Aside, Fresh};
 ghost use Rattle.named.specs.Shares.{named as meant, named_lawful, names as nameable, holding, free};
@@ -25,7 +25,7 @@ pub trait Kind {
         ensures { result ≡ nature.rules.identifier };
 
     fn greeting(&self) -> Option<Piece>
-        ensures { map_option sent result ≡ nature.rules.greeting };
+        ensures { option_map sent result ≡ nature.rules.greeting };
 
     // A session opens.
     fn begin(&mut self, slot: u8, number: u8)

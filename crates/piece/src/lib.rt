@@ -3,11 +3,11 @@
 
 ghost use Rattle.std.specs.Prelude.{◌≡◌, ◌≤◌, length, if◌then◌else◌, Some, None};
 ghost use Rattle.piece.specs.Objects.{is_object as object_is, IsObject, used};
-ghost use Rattle.piece.specs.Options.{map_option};
+ghost use Rattle.std.specs.Option.{option_map};
 
 use apdu::ApduReader;
 
-// Bytes, of which the first so many are used.
+// Bytes, of which the first so many are used. An `ArrayVec` would do, but it is no `Copy`, and pieces are copied.
 #[derive(Clone, Copy)]
 pub struct Bytes {
     pub bytes: [u8; 124],
@@ -32,13 +32,7 @@ impl Bytes {
 fn is_object(bytes: &[u8]) -> bool
     ensures { result ≡ object_is bytes.now }
 {
-    if bytes.len() > 124 {
-        return false;
-    }
-    match ApduReader::new(bytes).object() {
-        Ok(_) => true,
-        Err(_) => false,
-    }
+    bytes.len() <= 124 && ApduReader::new(bytes).object().is_ok()
 }
 
 // It can hold nothing but an application object.
@@ -52,7 +46,7 @@ pub struct Piece {
 impl Piece {
     // These bytes, if they are such an object.
     pub fn new(bytes: &[u8]) -> Option<Piece>
-        ensures { map_option (λ p. used p.held) result ≡ (if object_is bytes.now then Some bytes.now else None) }
+        ensures { option_map (λ p. used p.held) result ≡ (if object_is bytes.now then Some bytes.now else None) }
     {
         if !is_object(bytes) {
             return None;

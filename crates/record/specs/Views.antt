@@ -1,7 +1,7 @@
 -- What the code's record says, as the definitions have it.
 use Rattle.std.specs.Prelude.{ℕ, List, ◌++◌, take, drop}
 use Rattle.piece.specs.declared.Piece.{Piece}
-use Rattle.piece.specs.Options.{map_option}
+use Rattle.std.specs.Option.{option_map}
 use Rattle.spdu.specs.Views.{map_reply}
 use Rattle.resource.specs.Views.{sent}
 use Rattle.protocol.specs.declared.Owed.{Owed}
@@ -24,7 +24,7 @@ conn_of x = record {
   state = x.state;
   out = x.out;
   available = x.available;
-  owed = map_option owed_of x.owed;
+  owed = option_map owed_of x.owed;
   fragments = items x.fragments;
   chained = items x.chained;
 }

@@ -1,6 +1,6 @@
 // A connection of a slot.
 ghost use Rattle.std.specs.Prelude.{◌≡◌, ◌+◌, false, [], length, take, drop, nat_le};
-ghost use Rattle.piece.specs.Options.{map_option};
+ghost use Rattle.std.specs.Option.{option_map};
 ghost use Rattle.protocol.specs.Record.{bare as stripped, sent, owing, unmarked, joining, heard};
 ghost use Rattle.record.specs.Views.{conn_of, owed_of, fragments_to, chained_to, part_of, chaining};
 ghost use Rattle.record.specs.Adding.{adding};
@@ -69,7 +69,7 @@ impl Connection {
     }
 
     pub fn owed(&self) -> Option<Owed<Piece>>
-        ensures { map_option owed_of result ≡ (conn_of self.now).owed }
+        ensures { option_map owed_of result ≡ (conn_of self.now).owed }
     {
         self.owed
     }

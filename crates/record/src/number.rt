@@ -1,6 +1,6 @@
 // Numbers of a slot, of a connection and of a session, and an agreed size.
 ghost use Rattle.std.specs.Prelude.{◌≡◌, ◌<◌, ◌≤◌, ◌&&◌, leb, if◌then◌else◌, Some, None, nat_le, nat_lt};
-ghost use Rattle.piece.specs.Options.{map_option};
+ghost use Rattle.std.specs.Option.{option_map};
 ghost use Rattle.protocol.specs.Record.{valid, other as other_of};
 
 // One of the four slots.
@@ -12,7 +12,7 @@ pub struct SlotNumber {
 
 impl SlotNumber {
     pub fn new(number: u8) -> Option<SlotNumber>
-        ensures { map_option (λ s. s.number) result ≡ (if nat_lt 3 number then None else Some number) }
+        ensures { option_map (λ s. s.number) result ≡ (if nat_lt 3 number then None else Some number) }
     {
         if number > 3 {
             None
@@ -37,7 +37,7 @@ pub struct AgreedSize {
 
 impl AgreedSize {
     pub fn new(bytes: u16) -> Option<AgreedSize>
-        ensures { map_option (λ s. s.bytes) result ≡ (if nat_lt bytes 16 then None else Some bytes) }
+        ensures { option_map (λ s. s.bytes) result ≡ (if nat_lt bytes 16 then None else Some bytes) }
     {
         if bytes < 16 {
             None
@@ -63,7 +63,7 @@ pub struct ConnectionId {
 
 impl ConnectionId {
     pub fn new(number: u8) -> Option<ConnectionId>
-        ensures { map_option (λ c. c.number) result ≡ (if valid number then Some number else None) }
+        ensures { option_map (λ c. c.number) result ≡ (if valid number then Some number else None) }
     {
         if number == 1 || number == 2 {
             Some(ConnectionId { number })
@@ -98,7 +98,7 @@ pub struct SessionNumber {
 
 impl SessionNumber {
     pub fn new(number: u16) -> Option<SessionNumber>
-        ensures { map_option (λ n. n.number) result ≡ (if leb 1 number && nat_le number 16 then Some number else None) }
+        ensures { option_map (λ n. n.number) result ≡ (if leb 1 number && nat_le number 16 then Some number else None) }
     {
         if 1 <= number && number <= 16 {
             Some(SessionNumber {

@@ -1,6 +1,6 @@
 // What a slot keeps, with no promise between its parts.
 ghost use Rattle.std.specs.Prelude.{◌≡◌, ◌+◌, [], length, take, is_some, None, nat_le};
-ghost use Rattle.piece.specs.Options.{map_option};
+ghost use Rattle.std.specs.Option.{option_map};
 ghost use Rattle.resource.specs.Tables.{numbers, first};
 ghost use Rattle.protocol.specs.Record.{bare as stripped, sent, owing, unmarked, joining, heard, fresh, with_row, with_module, without_module, free, greets as greets_on};
 ghost use Rattle.record.specs.Views.{conn_of, owed_of, fragments_to, chained_to, part_of, chaining};
@@ -159,7 +159,7 @@ impl Record {
 
     // The least number that is not open.
     pub fn first_free(&self) -> Option<SessionNumber>
-        ensures { map_option (λ n. n.number) result ≡ free (slot_of self.now).rows }
+        ensures { option_map (λ n. n.number) result ≡ free (slot_of self.now).rows }
     {
         for number in 1..17u8 {
             let n = SessionNumber { number };
@@ -172,7 +172,7 @@ impl Record {
 
     // The least number of a session of the connection whose greeting is due.
     pub fn first_greeting(&self, c: ConnectionId) -> Option<SessionNumber>
-        ensures { map_option (λ n. n.number) result ≡ first (λ n. greets_on c.number ((slot_of self.now).rows n)) numbers }
+        ensures { option_map (λ n. n.number) result ≡ first (λ n. greets_on c.number ((slot_of self.now).rows n)) numbers }
     {
         for number in 1..17u8 {
             let n = SessionNumber { number };

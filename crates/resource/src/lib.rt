@@ -5,7 +5,7 @@ ghost use Rattle.std.specs.Prelude.{◌≡◌, ℕ, ◌-◌, ◌^◌, ◌<◌, m
 ghost use Rattle.resource.specs.Meaning.{Meaning, outcome};
 ghost use Rattle.resource.specs.Lawful.{Lawful};
 ghost use Rattle.resource.specs.Duties.{finds, readiness, greets, counts, after_opened, after_closed, comes_to, after_gone, after_told, Kept};
-ghost use Rattle.piece.specs.Options.{map_option};
+ghost use Rattle.std.specs.Option.{option_map};
 ghost use Rattle.resource.specs.Views.{sent, said, heard, status};
 
 use apdu::Apdu;
@@ -48,7 +48,7 @@ pub trait Resource {
 
     // The object that is sent first in a session.
     fn greeting(&self, identifier: u32) -> Option<Piece>
-        ensures { map_option sent result ≡ greets meaning self.now identifier };
+        ensures { option_map sent result ≡ greets meaning self.now identifier };
 
     // How many sessions are held for a slot, as far as the number goes.
     fn count(&self, slot: u8) -> usize

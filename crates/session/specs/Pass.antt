@@ -8,7 +8,7 @@ use Rattle.apdu.specs.Application.{read_apdu}
 use Rattle.refusal.specs.declared.Refusal.{Refusal}
 use Rattle.refusal.specs.declared.Refusal.TheVariants as no
 use Rattle.piece.specs.declared.Piece.{Piece}
-use Rattle.piece.specs.Options.{map_option}
+use Rattle.std.specs.Option.{option_map}
 use Rattle.resource.specs.Meaning.{Meaning, Reaction, Outcome}
 use Rattle.protocol.specs.declared.Row.{Row}
 use Rattle.protocol.specs.declared.Owed.{Owed}
@@ -17,7 +17,7 @@ use Rattle.protocol.specs.Calls.{object_fault, apdu_of}
 use Rattle.record.specs.Views.{owed_of}
 
 abbrev pub owes : Result (Option (Owed Piece)) Refusal → Result (Option (Owed (List ℕ))) Refusal
-owes (Ok o) = Ok (map_option owed_of o)
+owes (Ok o) = Ok (option_map owed_of o)
 owes (Err e) = Err e
 
 -- what is owed for what a resource made of an object

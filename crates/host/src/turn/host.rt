@@ -5,7 +5,7 @@ ghost use Rattle.protocol.specs.Runs.{at as named, clock as clocked, time_fits a
 ghost use Rattle.slot.specs.Stand.{plainly};
 ghost use Rattle.sending.specs.Next.{written};
 ghost use Rattle.feeding.specs.Feed.{turned};
-ghost use Rattle.piece.specs.Options.{map_option};
+ghost use Rattle.std.specs.Option.{option_map};
 ghost use Rattle.record.specs.Records.{slot_of};
 ghost use Rattle.host.specs.View.{Called, Begun, slot_at, fed_of, Back, next_of, Whose, size_at, line_at, session_at};
 
@@ -228,7 +228,7 @@ impl<R: Resource> Host<R> {
 }
 
 fn hand_out(slot: SlotNumber, connection: Option<ConnectionId>) -> Option<Turn>
-    ensures { result ≡ map_option (λ c. record { slot = slot; connection = c }) connection }
+    ensures { result ≡ option_map (λ c. record { slot = slot; connection = c }) connection }
 {
     match connection {
         Some(connection) => Some(Turn { slot, connection }),
