@@ -36,6 +36,7 @@ impl<A: Resource, B: Resource> Pair<A, B> {
     }
 }
 
+// Each function that names an identifier asks the one that has the match: one function over two closures would be longer than the `if`.
 impl<A: Resource, B: Resource> Resource for Pair<A, B> {
     ghost meaning = { paired A.Resource.meaning B.Resource.meaning };
 

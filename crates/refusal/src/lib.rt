@@ -31,6 +31,7 @@ pub enum Refusal {
 }
 
 impl Refusal {
+    // The number that reports tell; no `From`, since `u8::from(refusal)` would not say which number.
     pub fn number(self) -> u8
         ensures { result ≡ number_of self }
     {

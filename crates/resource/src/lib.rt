@@ -54,6 +54,7 @@ pub trait Resource {
     fn count(&self, slot: u8) -> usize
         ensures { result ≡ min (counts meaning self.now slot) (2 ^ 64 - 1) };
 
+    // A session opens, or closes. Its slot, identifier and number stay three parameters: callers have them from three places, and any values do.
     fn opened(&mut self, slot: u8, identifier: u32, number: u8)
         ensures share { meaning.share self.new slot ≡ after_opened meaning self.old slot identifier number }
         ensures kept { Kept meaning slot self.old self.new };
