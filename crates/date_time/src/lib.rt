@@ -8,6 +8,7 @@ ghost use Rattle.date_time.specs.Kinds.{date_time_nature, date_time_meaning};
 use apdu::{Apdu, DATE_TIME_ENQUIRY};
 use named::answer::reply;
 use named::{Kind, Named};
+use number::{SessionNumber, SlotNumber};
 use piece::Piece;
 use resource::Reaction;
 
@@ -34,14 +35,14 @@ impl Kind for DateTime {
         None
     }
 
-    fn begin(&mut self, slot: u8, number: u8) {}
+    fn begin(&mut self, slot: SlotNumber, number: SessionNumber) {}
 
     // An enquiry is answered with the time last told.
     fn react(
         &mut self,
         time: Option<[u8; 5]>,
-        slot: u8,
-        number: u8,
+        slot: SlotNumber,
+        number: SessionNumber,
         apdu: Apdu<&[u8]>,
     ) -> Reaction<Piece> {
         if apdu.tag != DATE_TIME_ENQUIRY {
@@ -56,5 +57,5 @@ impl Kind for DateTime {
         }
     }
 
-    fn forget(&mut self, slot: u8) {}
+    fn forget(&mut self, slot: SlotNumber) {}
 }

@@ -4,14 +4,13 @@ use Rattle.std.specs.Option.{option_map}
 use Rattle.resource.specs.Named.{information}
 use Rattle.resource.specs.NamedLaws.{information_orderly}
 use Rattle.resource.specs.Meaning.{Meaning}
-use Rattle.text.specs.Texts.{text}
 use Rattle.named.specs.declared.Named.{Named}
 use Rattle.named.specs.Nature.{Nature}
 use Rattle.named.specs.Shares.{named}
 use Rattle.information.specs.declared.Information.{Information}
 
 abbrev pub kept_for : Information → ℕ → Option (List ℕ)
-kept_for k slot = option_map text (slice_index_or k.latest slot None)
+kept_for k slot = option_map (λ body. body.items) (slice_index_or k.latest slot None)
 
 abbrev pub information_nature : Nature Information
 information_nature = record {

@@ -2,22 +2,22 @@
 #![tactic(auto)]
 
 ghost use Rattle.std.specs.Prelude.{◌≡◌, ◌≤◌, true, length};
-ghost use Rattle.resource.specs.Duties.{New};
 ghost use Rattle.std.specs.Option.{option_map};
+ghost use Rattle.resource.specs.Duties.{New};
 ghost use Rattle.resource.specs.Named.{is_information};
-ghost use Rattle.text.specs.Texts.{text as text_of};
 ghost use Rattle.information.specs.Kinds.{information_nature, information_meaning, kept_for};
 
 use apdu::{APPLICATION_INFO, Apdu};
+use arrayvec::ArrayVec;
 use named::{Kind, Named};
+use number::{SessionNumber, SlotNumber};
 use piece::Piece;
 use resource::Reaction;
-use text::Text;
 
 // The body of the latest object for each slot.
 #[derive(Drop)]
 pub struct Information {
-    latest: [Option<Text>; 4],
+    latest: [Option<ArrayVec<u8, 261>>; 4],
 }
 
 // Six bytes, the sixth of which tells how many follow.
@@ -28,31 +28,24 @@ fn is_whole(body: &[u8]) -> bool
     body.len() >= 6 && body.len() == 6 + body[5] as usize
 }
 
-fn latest_bytes(latest: &Option<Text>) -> Option<&[u8]>
-    ensures { option_map (λ x. x.now) result ≡ option_map text_of latest.now }
-{
-    match latest {
-        Some(text) => Some(text.bytes()),
-        None => None,
-    }
-}
-
 impl Information {
     // A new resource.
     pub fn resource() -> Named<Information>
         ensures { New information_meaning result }
     {
-        Named::new(Information { latest: [None; 4] })
+        Named::new(Information {
+            latest: [None, None, None, None],
+        })
     }
 
     // What is kept for a slot.
     pub fn kept(&self, slot: u8) -> Option<&[u8]>
         ensures { option_map (λ x. x.now) result ≡ kept_for self.now slot }
     {
-        match self.latest.get(slot as usize) {
-            Some(latest) => latest_bytes(latest),
-            None => None,
-        }
+        self.latest
+            .get(slot as usize)?
+            .as_ref()
+            .map(|body| body.as_slice())
     }
 }
 
@@ -68,13 +61,13 @@ impl Kind for Information {
     }
 
     // What is kept outlasts a session.
-    fn begin(&mut self, slot: u8, number: u8) {}
+    fn begin(&mut self, slot: SlotNumber, number: SessionNumber) {}
 
     fn react(
         &mut self,
         time: Option<[u8; 5]>,
-        slot: u8,
-        number: u8,
+        slot: SlotNumber,
+        number: SessionNumber,
         apdu: Apdu<&[u8]>,
     ) -> Reaction<Piece> {
         if apdu.tag != APPLICATION_INFO {
@@ -83,11 +76,11 @@ impl Kind for Information {
         if !is_whole(apdu.body) {
             return Reaction::Refused(1);
         }
-        self.latest[slot as usize] = Some(Text::copied(apdu.body));
+        self.latest[slot.get() as usize] = ArrayVec::try_from(apdu.body).ok();
         Reaction::Silent
     }
 
-    fn forget(&mut self, slot: u8) {
-        self.latest[slot as usize] = None;
+    fn forget(&mut self, slot: SlotNumber) {
+        self.latest[slot.get() as usize] = None;
     }
 }

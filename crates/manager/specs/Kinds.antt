@@ -1,5 +1,5 @@
 -- What Resource Manager is: it is made with identifiers, and notes which sessions sent a profile.
-use Rattle.std.specs.Prelude.{ℕ, List, take, slice_index_or}
+use Rattle.std.specs.Prelude.{ℕ, List, slice_index_or}
 use Rattle.resource.specs.Tags as tag
 use Rattle.resource.specs.Named.{manager, object_of, words}
 use Rattle.resource.specs.NamedLaws.{manager_orderly}
@@ -8,17 +8,13 @@ use Rattle.marks.specs.Marked.{marked}
 use Rattle.named.specs.declared.Named.{Named}
 use Rattle.named.specs.Nature.{Nature}
 use Rattle.named.specs.Shares.{named, no_marks}
-use Rattle.manager.specs.declared.Own.{Own}
 use Rattle.manager.specs.declared.Manager.{Manager}
-
-abbrev pub own_of : Own → List ℕ
-own_of o = take o.count o.identifiers
 
 abbrev pub manager_nature : Nature Manager
 manager_nature = record {
   rules = manager;
   orderly = manager_orderly;
-  made = λ k. own_of k.own;
+  made = λ k. k.own.items;
   note = λ k slot. marked (slice_index_or k.profiles slot no_marks);
 }
 

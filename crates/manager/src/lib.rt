@@ -1,78 +1,54 @@
 // Resource Manager (00010041): tells a module which resources there are.
 #![tactic(auto)]
 
-ghost use Rattle.std.specs.Prelude.{◌≡◌, ◌+◌, ◌≤◌, ◌++◌, length, take};
-ghost use Rattle.writer.specs.Writing.{four};
+ghost use Rattle.std.specs.Prelude.{◌≡◌, ◌≤◌, ◌++◌, take};
+ghost use Rattle.arrayvec.specs.ArrayVec.{array_vec_len};
 ghost use Rattle.resource.specs.Duties.{New};
-ghost use Rattle.piece.specs.Objects.{IsObject};
-ghost use Rattle.text.specs.Texts.{text as text_of};
-ghost use Rattle.manager.specs.Kinds.{own_of, manager_nature, manager_meaning, announcing};
+ghost use Rattle.manager.specs.Kinds.{manager_nature, manager_meaning, announcing};
 
 use apdu::{Apdu, PROFILE_CHANGED, PROFILE_ENQUIRY, PROFILE_REPLY};
+use arrayvec::ArrayVec;
 use marks::Marks;
 use named::answer::reply;
 use named::{Kind, Named};
+use number::{SessionNumber, SlotNumber};
 use piece::Piece;
 use resource::Reaction;
-use text::Text;
 
-// At most sixteen identifiers, with their number.
-#[derive(Clone, Copy)]
-struct Own {
-    identifiers: [u32; 16],
-    count: usize,
-}
-
-impl Own {
-    // The first sixteen of them.
-    fn first_of(all: &[u32]) -> Own
-        ensures { own_of result ≡ take 16 all.now }
-    {
-        let count = all.len().min(16);
-        let mut identifiers = [0; 16];
-        identifiers[..count].copy_from_slice(&all[..count]);
-        Own { identifiers, count }
-    }
-
-    fn announced(&self) -> &[u32]
-        ensures all { result.now ≡ take 16 (own_of self.now) }
-        ensures within { length result.now ≤ 16 }
-    {
-        &self.identifiers[..self.count.min(16)]
-    }
-}
-
-// A number in four bytes at the end.
-fn with_word(text: Text, word: u32) -> Text
-    requires { text.length ≤ 257 }
-    ensures bytes { text_of result ≡ text_of text ++ four word }
-    ensures length { result.length ≡ text.length + 4 }
+// The first sixteen of them.
+fn first_of(all: &[u32]) -> ArrayVec<u32, 16>
+    ensures { result.items ≡ take 16 all.now }
 {
-    let high = word / 65536;
-    let low = word % 65536;
-    text.push((high / 256) as u8)
-        .push((high % 256) as u8)
-        .push((low / 256) as u8)
-        .push((low % 256) as u8)
+    ArrayVec::try_from(&all[..all.len().min(16)]).unwrap_or_default()
+}
+
+// Four bytes more at the end.
+fn push_four(bytes: &mut ArrayVec<u8, 68>, more: [u8; 4])
+    requires { array_vec_len bytes.old ≤ 64 }
+    ensures { bytes.new.items ≡ bytes.old.items ++ more }
+{
+    for byte in more {
+        bytes.push(byte);
+    }
 }
 
 // The object that announces identifiers.
-fn profile(identifiers: &[u32]) -> Text
-    requires { length identifiers.now ≤ 16 }
-    ensures bytes { text_of result ≡ announcing identifiers.now }
-    ensures object { IsObject (text_of result) }
+#[tactic(auto, using(crate::proofs::Profiles::four_bytes, crate::proofs::Profiles::begun_length, crate::proofs::Profiles::begun_more))]
+fn profile(identifiers: &ArrayVec<u32, 16>) -> ArrayVec<u8, 68>
+    ensures { result.items ≡ announcing (take 16 identifiers.now.items) }
 {
-    let mut text = Text::copied(&[0x9F, 0x80, 0x11, identifiers.len() as u8 * 4]);
-    for i in 0..identifiers.len() {
-        text = with_word(text, identifiers[i]);
+    let mut bytes = ArrayVec::new();
+    push_four(&mut bytes, [0x9F, 0x80, 0x11, identifiers.len() as u8 * 4]);
+    for identifier in identifiers.as_slice() {
+        push_four(&mut bytes, identifier.to_be_bytes());
     }
-    text
+    bytes
 }
 
 // It notes which sessions of each slot sent a profile.
 #[derive(Drop)]
 pub struct Manager {
-    own: Own,
+    own: ArrayVec<u32, 16>,
     profiles: [Marks; 4],
 }
 
@@ -83,7 +59,7 @@ impl Manager {
         ensures begins { New manager_meaning result }
     {
         Named::new(Manager {
-            own: Own::first_of(identifiers),
+            own: first_of(identifiers),
             profiles: [Marks::none(); 4],
         })
     }
@@ -100,25 +76,26 @@ impl Kind for Manager {
         Piece::new(&[0x9F, 0x80, 0x10, 0])
     }
 
-    fn begin(&mut self, slot: u8, number: u8) {
-        let at = slot as usize;
-        self.profiles[at] = self.profiles[at].with(number, false);
+    fn begin(&mut self, slot: SlotNumber, number: SessionNumber) {
+        let marks = &mut self.profiles[slot.get() as usize];
+        *marks = marks.with(number, false);
     }
 
+    #[tactic(auto, using(crate::proofs::Profiles::announced))]
     fn react(
         &mut self,
         time: Option<[u8; 5]>,
-        slot: u8,
-        number: u8,
+        slot: SlotNumber,
+        number: SessionNumber,
         apdu: Apdu<&[u8]>,
     ) -> Reaction<Piece> {
         let length = apdu.body.len();
         match apdu.tag {
-            PROFILE_ENQUIRY if length == 0 => reply(profile(self.own.announced()).bytes()),
+            PROFILE_ENQUIRY if length == 0 => reply(profile(&self.own).as_slice()),
             PROFILE_REPLY if length % 4 == 0 => {
-                let at = slot as usize;
-                let before = self.profiles[at].has(number);
-                self.profiles[at] = self.profiles[at].with(number, true);
+                let marks = &mut self.profiles[slot.get() as usize];
+                let before = marks.has(number.get());
+                *marks = marks.with(number, true);
                 if before {
                     Reaction::Silent
                 } else {
@@ -131,7 +108,7 @@ impl Kind for Manager {
         }
     }
 
-    fn forget(&mut self, slot: u8) {
-        self.profiles[slot as usize] = Marks::none();
+    fn forget(&mut self, slot: SlotNumber) {
+        self.profiles[slot.get() as usize] = Marks::none();
     }
 }

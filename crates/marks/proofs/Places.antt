@@ -1,8 +1,10 @@
 -- Marks read, changed and counted.
-use Rattle.std.proofs.Common.{◌≡◌, ℕ, zero, suc, ◌+◌, ◌-◌, ◌<◌, ◌≤◌, Bool, false, cond, eqb, List, length, get_or, set, replicate, sym, refl, ap, ◌∙◌, arith}
+use Rattle.std.proofs.Common.{◌≡◌, ℕ, zero, suc, ◌+◌, ◌-◌, ◌<◌, ◌≤◌, Bool, false, cond, eqb, List, [], ◌∷◌, length, get_or, set, replicate, sym, refl, ap, ◌∙◌, add-zero, arith}
 use mathlib.Core.Path.{fun_ext}
+use Rattle.std.specs.List.{count_by}
 use Rattle.std.proofs.lemmas.Bool.{cond_both, eqb-true, eqb-false}
 use Rattle.std.proofs.lemmas.List.{get_or-set_same, get_or-set_other, get_or_past}
+use Rattle.std.proofs.lemmas.List.Sums.{sum_by-cons}
 use Rattle.resource.specs.Tables.{put, from, tally, numbers}
 use Rattle.marks.specs.declared.Marks.{Marks}
 use Rattle.marks.specs.Marked.{marked}
@@ -30,13 +32,16 @@ none_at zero k = refl
 none_at (suc n) zero = refl
 none_at (suc n) (suc k) = none_at n k
 
-pub marked_none : (n : ℕ) → marked (marks (replicate n false)) ≡ (λ _. false)
+marked_replicated : (n : ℕ) → marked (marks (replicate n false)) ≡ (λ _. false)
 unfolding marked
-marked_none n = fun_ext go
+marked_replicated n = fun_ext go
   where
     go : (k : ℕ) → marked (marks (replicate n false)) k ≡ false
     go zero = refl
     go (suc k) = none_at n k
+
+pub marked_none : marked (marks (replicate 16 false)) ≡ (λ _. false)
+marked_none = marked_replicated 16
 
 set_at : (bs : List Bool) (b : Bool) (k n : ℕ) → k < length bs → marked (marks (set bs k b)) n ≡ put (suc k) b (marked (marks bs)) n
 unfolding marked
@@ -49,20 +54,15 @@ set_at bs b k (suc n) lt =
 pub marked_set : (m : Marks) (b : Bool) (n : ℕ) → 1 ≤ n → n - 1 < length m.places → marked (marks (set m.places (n - 1) b)) ≡ put n b (marked m)
 marked_set m b n h lt = fun_ext (λ k. set_at m.places b (n - 1) k lt) ∙ ap (λ k. put k b (marked m)) (sym (place n h))
 
--- the marks that are still to be counted, after those of the first places
-abbrev pub left_to_count : Marks → ℕ → ℕ
-left_to_count m i = tally (marked m) (from (i + 1) (16 - i))
+-- the elements that are true are as many as the numbers that pass from the first element's number on
+counted_from : (f : ℕ → Bool) (bs : List Bool) (k : ℕ) → ((i : ℕ) → f (k + i) ≡ get_or bs i false) → count_by (λ b. b) bs ≡ tally f (from k (length bs))
+counted_from f [] k h = refl
+counted_from f (b ∷ bs) k h =
+    sum_by-cons (λ c. cond c 1 0) b bs
+    ∙ ap (λ c. cond c 1 0 + count_by (λ d. d) bs) (sym (h 0) ∙ ap f (add-zero k))
+    ∙ ap (λ n. cond (f k) 1 0 + n) (counted_from f bs (k + 1) (λ i. let e : k + 1 + i ≡ k + suc i = omega arith in ap f e ∙ h (suc i)))
 
-pub count_all : (m : Marks) → left_to_count m 0 ≡ tally (marked m) numbers
-unfolding numbers
-count_all m = refl
-
-pub count_more : (m : Marks) (i : ℕ) → i < 16 → left_to_count m i ≡ cond (get_or m.places i false) 1 0 + left_to_count m (i + 1)
-unfolding marked
-count_more m i lt =
-    let e : 16 - i ≡ suc (16 - (i + 1)) = omega arith in
-    let s : i + 1 ≡ suc i = omega arith in
-    ap (λ k. tally (marked m) (from (i + 1) k)) e ∙ ap (λ j. cond (marked m j) 1 0 + tally (marked m) (from (i + 1 + 1) (16 - (i + 1)))) s
-
-pub count_end : (m : Marks) (i : ℕ) → 16 ≤ i → left_to_count m i ≡ 0
-count_end m i le = let e : 16 - i ≡ 0 = omega arith in ap (λ k. tally (marked m) (from (i + 1) k)) e
+pub counted : (m : Marks) → length m.places ≡ 16 → count_by (λ b. b) m.places ≡ tally (marked m) numbers
+unfolding marked numbers
+counted m long =
+    counted_from (marked m) m.places 1 (λ i. let e : 1 + i ≡ suc i = omega arith in ap (marked m) e) ∙ ap (λ n. tally (marked m) (from 1 n)) long

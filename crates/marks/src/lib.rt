@@ -1,22 +1,19 @@
 // A mark on each of the numbers from 1 to 16.
 #![tactic(auto)]
 
-ghost use Rattle.std.specs.Prelude.{◌≡◌, ◌≤◌, false, if◌then◌else◌};
+ghost use Rattle.std.specs.Prelude.{◌≡◌, ◌≤◌, false};
 ghost use Rattle.resource.specs.Tables.{put, tally, numbers};
 ghost use Rattle.marks.specs.Marked.{marked};
+
+use number::SessionNumber;
 
 #[derive(Clone, Copy)]
 pub struct Marks {
     places: [bool; 16],
 }
 
-fn one(mark: bool) -> usize
-    ensures { result ≡ (if mark then 1 else 0) }
-{
-    if mark { 1 } else { 0 }
-}
-
 impl Marks {
+    #[tactic(auto, using(crate::proofs::Places::marked_none))]
     pub fn none() -> Marks
         ensures { marked result ≡ (λ _. false) }
     {
@@ -25,6 +22,7 @@ impl Marks {
         }
     }
 
+    #[tactic(auto, using(crate::proofs::Places::marked_at, crate::proofs::Places::marked_out))]
     pub fn has(self, number: u8) -> bool
         ensures { result ≡ marked self number }
     {
@@ -34,22 +32,19 @@ impl Marks {
         self.places[number as usize - 1]
     }
 
-    pub fn with(mut self, number: u8, mark: bool) -> Marks
-        requires { (1 ≤ number) × (number ≤ 16) }
-        ensures { marked result ≡ put number mark (marked self) }
+    #[tactic(auto, using(crate::proofs::Places::marked_set))]
+    pub fn with(mut self, number: SessionNumber, mark: bool) -> Marks
+        ensures { marked result ≡ put number.number mark (marked self) }
     {
-        self.places[number as usize - 1] = mark;
+        self.places[number.get() as usize - 1] = mark;
         self
     }
 
+    #[tactic(auto, using(crate::proofs::Places::counted))]
     pub fn count(self) -> usize
         ensures count { result ≡ tally (marked self) numbers }
         ensures within { result ≤ 16 }
     {
-        let mut total = 0;
-        for i in 0..16 {
-            total += one(self.places[i]);
-        }
-        total
+        self.places.iter().filter(|mark| **mark).count()
     }
 }

@@ -1,5 +1,5 @@
 -- What a kind of resource adds to those of one identifier that are always ready.
-use Rattle.std.specs.Prelude.{◌≡◌, ℕ, ◌<◌}
+use Rattle.std.specs.Prelude.{◌≡◌, ℕ, ◌<◌, ◌≢◌}
 use Rattle.resource.specs.Plain.{Plain}
 use Rattle.resource.specs.PlainLaws.{Orderly}
 
@@ -14,7 +14,7 @@ module _ {S : Type 0} (N : Nature S) where
   -- a call on one slot keeps what the kind is made of, and what it notes for every other slot
   pub record Aside (slot : ℕ) (before after : S) : Type 0 where
     pub made : N.made after ≡ N.made before
-    pub others : (k : ℕ) → (k ≡ slot → ⊥) → N.note after k ≡ N.note before k
+    pub others : (k : ℕ) → (k ≢ slot) → N.note after k ≡ N.note before k
 
   -- nothing was noted so far
   abbrev pub Fresh : S → Type 0

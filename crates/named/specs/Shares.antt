@@ -1,5 +1,5 @@
 -- What a resource of some kind means.
-use Rattle.std.specs.Prelude.{Bool, not, ◌&&◌, [], ◌∷◌, ℕ, get_or}
+use Rattle.std.specs.Prelude.{Bool, cond, Some, None, Option, [], ◌∷◌, ℕ, get_or}
 use Rattle.resource.specs.Meaning.{Meaning}
 use Rattle.resource.specs.Lawful.{Lawful, nameable}
 use Rattle.resource.specs.Plain.{Keep, keep, plain}
@@ -7,10 +7,15 @@ use Rattle.resource.specs.PlainLaws.{plain_lawful}
 use Rattle.marks.specs.declared.Marks.{Marks}
 use Rattle.marks.specs.Marked.{marked}
 use Rattle.named.specs.declared.Named.{Named}
+use Rattle.named.specs.declared.Place.{Place}
 use Rattle.named.specs.Nature.{Nature}
 
 abbrev pub no_marks : Marks
 no_marks = record { places = [] }
+
+-- the slot and the number of a place
+abbrev pub place_of : Place → ℕ × ℕ
+place_of p = (p.slot.number, p.number.number)
 
 module _ {K : Type 0} (N : Nature K) where
   abbrev pub share : Named K → ℕ → Keep N.rules.Note
@@ -22,12 +27,10 @@ module _ {K : Type 0} (N : Nature K) where
   pub named_lawful : Lawful named
   named_lawful = plain_lawful N.rules (λ u. N.made u.kind) share N.orderly
 
-  -- whether a slot, an identifier and a number may name a session, and whether that one is held, or is not
-  abbrev pub names : ℕ → ℕ → ℕ → Bool
-  names slot i n = nameable (N.rules.identifier ∷ []) slot i n
+  -- what a slot, an identifier and a number name, where a session may be
+  abbrev pub named_place : ℕ → ℕ → ℕ → Option (ℕ × ℕ)
+  named_place slot i n = cond (nameable (N.rules.identifier ∷ []) slot i n) (Some (slot, n)) None
 
-  abbrev pub holding : Named K → ℕ → ℕ → ℕ → Bool
-  holding u slot i n = names slot i n && named.holds (N.made u.kind) (share u slot) n i
-
-  abbrev pub free : Named K → ℕ → ℕ → ℕ → Bool
-  free u slot i n = names slot i n && not (named.holds (N.made u.kind) (share u slot) n i)
+  -- whether the session there is held
+  abbrev pub held_in : Named K → Place → Bool
+  held_in u p = (share u p.slot.number).held p.number.number

@@ -1,17 +1,18 @@
 // Resources of one identifier that are always ready. What they share is here; a kind says what each of them adds.
 #![tactic(auto)]
 
-ghost use Rattle.std.specs.Prelude.{◌≡◌, true, ℕ, ◌<◌, ◌≤◌};
+ghost use Rattle.std.specs.Prelude.{◌≡◌};
+ghost use Rattle.std.specs.Option.{option_map};
 ghost use Rattle.resource.specs.Meaning.{outcome};
 ghost use Rattle.resource.specs.Duties.{New};
-ghost use Rattle.std.specs.Option.{option_map};
 ghost use Rattle.resource.specs.Views.{sent, said, heard};
 ghost use Rattle.named.specs.Nature.{Nature, Aside, Fresh};
-ghost use Rattle.named.specs.Shares.{named as meant, named_lawful, names as nameable, holding, free};
+ghost use Rattle.named.specs.Shares.{named as meant, named_lawful, place_of, named_place, held_in};
 
 use apdu::Apdu;
 use identifier::matches;
 use marks::Marks;
+use number::{SessionNumber, SlotNumber};
 use piece::Piece;
 use resource::{Reaction, Resource};
 
@@ -28,28 +29,32 @@ pub trait Kind {
         ensures { option_map sent result ≡ nature.rules.greeting };
 
     // A session opens.
-    fn begin(&mut self, slot: u8, number: u8)
-        requires { (slot < 4) × ((1 ≤ number) × (number ≤ 16)) }
-        ensures note { nature.note self.new slot ≡ nature.rules.begins number (nature.note self.old slot) }
-        ensures aside { Aside nature slot self.old self.new };
+    fn begin(&mut self, slot: SlotNumber, number: SessionNumber)
+        ensures note { nature.note self.new slot.number ≡ nature.rules.begins number.number (nature.note self.old slot.number) }
+        ensures aside { Aside nature slot.number self.old self.new };
 
     // An object came in a held session.
     fn react(
         &mut self,
         time: Option<[u8; 5]>,
-        slot: u8,
-        number: u8,
+        slot: SlotNumber,
+        number: SessionNumber,
         apdu: Apdu<&[u8]>,
     ) -> Reaction<Piece>
-        requires { (slot < 4) × ((1 ≤ number) × (number ≤ 16)) }
-        ensures note { outcome (said result) (nature.note self.new slot) ≡ nature.rules.reacts (nature.made self.old) time number (heard apdu.entry) (nature.note self.old slot) }
-        ensures aside { Aside nature slot self.old self.new };
+        ensures note { outcome (said result) (nature.note self.new slot.number) ≡ nature.rules.reacts (nature.made self.old) time number.number (heard apdu.entry) (nature.note self.old slot.number) }
+        ensures aside { Aside nature slot.number self.old self.new };
 
     // What was noted for a slot is forgotten.
-    fn forget(&mut self, slot: u8)
-        requires { slot < 4 }
-        ensures note { nature.note self.new slot ≡ nature.rules.start }
-        ensures aside { Aside nature slot self.old self.new };
+    fn forget(&mut self, slot: SlotNumber)
+        ensures note { nature.note self.new slot.number ≡ nature.rules.start }
+        ensures aside { Aside nature slot.number self.old self.new };
+}
+
+// Where a session of the resource may be.
+#[derive(Clone, Copy)]
+struct Place {
+    slot: SlotNumber,
+    number: SessionNumber,
 }
 
 // The time last told, and the sessions held in each slot.
@@ -79,27 +84,24 @@ impl<K: Kind> Named<K> {
         &self.kind
     }
 
-    fn names(&self, slot: u8, identifier: u32, number: u8) -> bool
-        ensures test { result ≡ nameable K.Kind.nature slot identifier number }
-        ensures within { result ≡ true → (slot < 4) × (1 ≤ number) × (number ≤ 16) }
+    // The place that these name, where a session of this resource may be.
+    fn place(&self, slot: u8, identifier: u32, number: u8) -> Option<Place>
+        ensures { option_map place_of result ≡ named_place K.Kind.nature slot identifier number }
     {
-        slot <= 3 && identifier == self.kind.identifier() && 1 <= number && number <= 16
+        if identifier != self.kind.identifier() {
+            return None;
+        }
+        Some(Place {
+            slot: SlotNumber::new(slot)?,
+            number: SessionNumber::new(number)?,
+        })
     }
 
-    // Whether this session can be named and is held.
-    fn holds(&self, slot: u8, identifier: u32, number: u8) -> bool
-        ensures test { result ≡ holding K.Kind.nature self.now slot identifier number }
-        ensures within { result ≡ true → (slot < 4) × (1 ≤ number) × (number ≤ 16) }
+    // Whether the session there is held.
+    fn holds(&self, place: Place) -> bool
+        ensures { result ≡ held_in K.Kind.nature self.now place }
     {
-        self.names(slot, identifier, number) && self.held[slot as usize].has(number)
-    }
-
-    // Whether this session can be named and is not held.
-    fn is_free(&self, slot: u8, identifier: u32, number: u8) -> bool
-        ensures test { result ≡ free K.Kind.nature self.now slot identifier number }
-        ensures within { result ≡ true → (slot < 4) × (1 ≤ number) × (number ≤ 16) }
-    {
-        self.names(slot, identifier, number) && !self.held[slot as usize].has(number)
+        self.held[place.slot.get() as usize].has(place.number.get())
     }
 }
 
@@ -110,11 +112,7 @@ impl<K: Kind> Resource for Named<K> {
 
     fn find(&self, identifier: u32) -> Option<u32> {
         let own = self.kind.identifier();
-        if matches(own, identifier) {
-            Some(own)
-        } else {
-            None
-        }
+        matches(own, identifier).then_some(own)
     }
 
     fn ready(&self, slot: u8, identifier: u32) -> u8 {
@@ -134,25 +132,27 @@ impl<K: Kind> Resource for Named<K> {
     }
 
     fn count(&self, slot: u8) -> usize {
-        if slot <= 3 {
-            self.held[slot as usize].count()
-        } else {
-            0
-        }
+        self.held
+            .get(slot as usize)
+            .map_or(0, |marks| marks.count())
     }
 
     fn opened(&mut self, slot: u8, identifier: u32, number: u8) {
-        if self.is_free(slot, identifier, number) {
-            let at = slot as usize;
-            self.held[at] = self.held[at].with(number, true);
-            self.kind.begin(slot, number);
+        if let Some(place) = self.place(slot, identifier, number)
+            && !self.holds(place)
+        {
+            let marks = &mut self.held[place.slot.get() as usize];
+            *marks = marks.with(place.number, true);
+            self.kind.begin(place.slot, place.number);
         }
     }
 
     fn closed(&mut self, slot: u8, identifier: u32, number: u8) {
-        if self.holds(slot, identifier, number) {
-            let at = slot as usize;
-            self.held[at] = self.held[at].with(number, false);
+        if let Some(place) = self.place(slot, identifier, number)
+            && self.holds(place)
+        {
+            let marks = &mut self.held[place.slot.get() as usize];
+            *marks = marks.with(place.number, false);
         }
     }
 
@@ -163,16 +163,17 @@ impl<K: Kind> Resource for Named<K> {
         number: u8,
         apdu: Apdu<&[u8]>,
     ) -> Reaction<Piece> {
-        if self.holds(slot, identifier, number) {
-            self.kind.react(self.time, slot, number, apdu)
-        } else {
-            Reaction::Silent
+        match self.place(slot, identifier, number) {
+            Some(place) if self.holds(place) => {
+                self.kind.react(self.time, place.slot, place.number, apdu)
+            }
+            _ => Reaction::Silent,
         }
     }
 
     fn gone(&mut self, slot: u8) {
-        if slot <= 3 {
-            self.held[slot as usize] = Marks::none();
+        if let Some(slot) = SlotNumber::new(slot) {
+            self.held[slot.get() as usize] = Marks::none();
             self.kind.forget(slot);
         }
     }
