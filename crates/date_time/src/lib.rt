@@ -6,11 +6,11 @@ ghost use Rattle.resource.specs.Duties.{New};
 ghost use Rattle.date_time.specs.Kinds.{date_time_nature, date_time_meaning};
 
 use apdu::{Apdu, DATE_TIME_ENQUIRY};
-use named::answer::reply;
+use named::answer::{WRONG_LENGTH, reply};
 use named::{Kind, Named};
 use number::{SessionNumber, SlotNumber};
 use piece::Piece;
-use resource::Reaction;
+use resource::Refused;
 
 #[derive(Clone, Copy)]
 pub struct DateTime {}
@@ -44,17 +44,17 @@ impl Kind for DateTime {
         slot: SlotNumber,
         number: SessionNumber,
         apdu: Apdu<&[u8]>,
-    ) -> Reaction<Piece> {
+    ) -> Result<Option<Piece>, Refused> {
         if apdu.tag != DATE_TIME_ENQUIRY {
-            return Reaction::Silent;
+            return Ok(None);
         }
         if apdu.body.len() != 1 {
-            return Reaction::Refused(1);
+            return Err(WRONG_LENGTH);
         }
-        match time {
-            None => Reaction::Silent,
-            Some(t) => reply(&[0x9F, 0x84, 0x41, 5, t[0], t[1], t[2], t[3], t[4]]),
-        }
+        let Some(t) = time else {
+            return Ok(None);
+        };
+        reply(&[0x9F, 0x84, 0x41, 5, t[0], t[1], t[2], t[3], t[4]])
     }
 
     fn forget(&mut self, slot: SlotNumber) {}

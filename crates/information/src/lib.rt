@@ -9,10 +9,11 @@ ghost use Rattle.information.specs.Kinds.{information_nature, information_meanin
 
 use apdu::{APPLICATION_INFO, Apdu};
 use arrayvec::ArrayVec;
+use named::answer::WRONG_LENGTH;
 use named::{Kind, Named};
 use number::{SessionNumber, SlotNumber};
 use piece::Piece;
-use resource::Reaction;
+use resource::Refused;
 
 // The body of the latest object for each slot.
 #[derive(Drop)]
@@ -69,15 +70,15 @@ impl Kind for Information {
         slot: SlotNumber,
         number: SessionNumber,
         apdu: Apdu<&[u8]>,
-    ) -> Reaction<Piece> {
+    ) -> Result<Option<Piece>, Refused> {
         if apdu.tag != APPLICATION_INFO {
-            return Reaction::Silent;
+            return Ok(None);
         }
         if !is_whole(apdu.body) {
-            return Reaction::Refused(1);
+            return Err(WRONG_LENGTH);
         }
         self.latest[slot.get() as usize] = ArrayVec::try_from(apdu.body).ok();
-        Reaction::Silent
+        Ok(None)
     }
 
     fn forget(&mut self, slot: SlotNumber) {

@@ -9,11 +9,11 @@ ghost use Rattle.manager.specs.Kinds.{manager_nature, manager_meaning, announcin
 use apdu::{Apdu, PROFILE_CHANGED, PROFILE_ENQUIRY, PROFILE_REPLY};
 use arrayvec::ArrayVec;
 use marks::Marks;
-use named::answer::reply;
+use named::answer::{WRONG_LENGTH, reply};
 use named::{Kind, Named};
 use number::{SessionNumber, SlotNumber};
 use piece::Piece;
-use resource::Reaction;
+use resource::Refused;
 
 // The first sixteen of them.
 fn first_of(all: &[u32]) -> ArrayVec<u32, 16>
@@ -88,7 +88,7 @@ impl Kind for Manager {
         slot: SlotNumber,
         number: SessionNumber,
         apdu: Apdu<&[u8]>,
-    ) -> Reaction<Piece> {
+    ) -> Result<Option<Piece>, Refused> {
         let length = apdu.body.len();
         match apdu.tag {
             PROFILE_ENQUIRY if length == 0 => reply(profile(&self.own).as_slice()),
@@ -97,14 +97,14 @@ impl Kind for Manager {
                 let before = marks.has(number.get());
                 *marks = marks.with(number, true);
                 if before {
-                    Reaction::Silent
+                    Ok(None)
                 } else {
                     reply(&[0x9F, 0x80, 0x12, 0])
                 }
             }
             PROFILE_CHANGED if length == 0 => reply(&[0x9F, 0x80, 0x10, 0]),
-            PROFILE_ENQUIRY | PROFILE_REPLY | PROFILE_CHANGED => Reaction::Refused(1),
-            _ => Reaction::Silent,
+            PROFILE_ENQUIRY | PROFILE_REPLY | PROFILE_CHANGED => Err(WRONG_LENGTH),
+            _ => Ok(None),
         }
     }
 

@@ -14,7 +14,7 @@ use identifier::matches;
 use marks::Marks;
 use number::{SessionNumber, SlotNumber};
 use piece::Piece;
-use resource::{Reaction, Resource};
+use resource::{Readiness, Refused, Resource};
 
 pub mod answer;
 
@@ -40,7 +40,7 @@ pub trait Kind {
         slot: SlotNumber,
         number: SessionNumber,
         apdu: Apdu<&[u8]>,
-    ) -> Reaction<Piece>
+    ) -> Result<Option<Piece>, Refused>
         ensures note { outcome (said result) (nature.note self.new slot.number) ≡ nature.rules.reacts (nature.made self.old) time number.number (heard apdu.entry) (nature.note self.old slot.number) }
         ensures aside { Aside nature slot.number self.old self.new };
 
@@ -115,11 +115,11 @@ impl<K: Kind> Resource for Named<K> {
         matches(own, identifier).then_some(own)
     }
 
-    fn ready(&self, slot: u8, identifier: u32) -> u8 {
-        if slot <= 3 && identifier == self.kind.identifier() {
-            0
+    fn ready(&self, slot: u8, identifier: u32) -> Readiness {
+        if SlotNumber::new(slot).is_some() && identifier == self.kind.identifier() {
+            Readiness::Ready
         } else {
-            0xF1
+            Readiness::Unavailable
         }
     }
 
@@ -162,12 +162,12 @@ impl<K: Kind> Resource for Named<K> {
         identifier: u32,
         number: u8,
         apdu: Apdu<&[u8]>,
-    ) -> Reaction<Piece> {
+    ) -> Result<Option<Piece>, Refused> {
         match self.place(slot, identifier, number) {
             Some(place) if self.holds(place) => {
                 self.kind.react(self.time, place.slot, place.number, apdu)
             }
-            _ => Reaction::Silent,
+            _ => Ok(None),
         }
     }
 
