@@ -63,10 +63,6 @@ admits (AtLeast least) n = nat_le least n
 abbrev pub part_of : ℕ → Place → Place
 part_of n p = record { left = take n p.left; end = p.end - (length p.left - n) }
 
--- the next n bytes, and the place after them
-abbrev pub split : ℕ → Place → Place × Place
-split n p = (part_of n p, past (drop n p.left) p)
-
 -- a length that is allowed, and that many bytes
 abbrev pub field : Size → Place → Result Place Fault × Place
 field size p =

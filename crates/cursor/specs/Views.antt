@@ -1,6 +1,5 @@
 -- What the readers' values say, with what their references point to.
-use Rattle.std.specs.Prelude.{ℕ, List, Some, None, Ok, Err, Option, Result}
-use Rattle.std.specs.Borrow.{Bor}
+use Rattle.std.specs.Prelude.{Ok, Err, Result}
 use Rattle.cursor.specs.declared.fault.Fault.{Fault}
 use Rattle.cursor.specs.declared.fault.Fault.TheVariants.{Length}
 use Rattle.cursor.specs.declared.fault.LengthFault.{LengthFault}
@@ -23,7 +22,3 @@ read (Err e) = Err Length
 abbrev pub read_place : Result Cursor LengthFault → Result Place Fault
 read_place (Ok c) = Ok (place c)
 read_place (Err e) = Err Length
-
-abbrev pub first_view : Option (ℕ × Bor (List ℕ)) → Option (ℕ × List ℕ)
-first_view None = None
-first_view (Some x) = Some (x.0, x.1.now)

@@ -1,9 +1,9 @@
 // Reading forward over the bytes of a unit: a cursor, the parts that it hands out, and the faults of each layer.
 #![tactic(auto)]
 
-ghost use Rattle.std.specs.Prelude.{◌≡◌, ◌≤◌, length};
-ghost use Rattle.cursor.specs.Reading.{start, byte as byte_of, finish as finished, number as number_of, word as word_of, length_field, field as field_of, admits as admitted, rest as rest_of, split, first as first_of};
-ghost use Rattle.cursor.specs.Views.{place, read, read_place, part, first_view};
+ghost use Rattle.std.specs.Prelude.{◌≡◌};
+ghost use Rattle.cursor.specs.Reading.{start, byte as byte_of, finish as finished, number as number_of, word as word_of, length_field, field as field_of, admits as admitted, rest as rest_of};
+ghost use Rattle.cursor.specs.Views.{place, read, read_place, part};
 
 use crate::fault::LengthFault;
 
@@ -41,16 +41,6 @@ pub struct Cursor<'a> {
     pub end: usize,
 }
 
-// The first byte and those after it.
-fn first(bytes: &[u8]) -> Option<(u8, &[u8])>
-    ensures { first_view result ≡ first_of bytes.now }
-{
-    match bytes {
-        [b, rest @ ..] => Some((*b, rest)),
-        [] => None,
-    }
-}
-
 impl<'a> Cursor<'a> {
     pub fn new(bytes: &'a [u8]) -> Cursor<'a>
         ensures { place result ≡ start bytes.now }
@@ -64,29 +54,23 @@ impl<'a> Cursor<'a> {
     pub fn byte(&mut self) -> Result<u8, LengthFault>
         ensures { byte_of (place self.old) ≡ (read result, place self.new) }
     {
-        let Some((b, rest)) = first(self.left) else {
-            return Err(LengthFault);
-        };
+        let (b, rest) = self.left.split_first().ok_or(LengthFault)?;
         self.left = rest;
-        Ok(b)
+        Ok(*b)
     }
 
     // Two bytes, the high one first.
     pub fn number(&mut self) -> Result<u16, LengthFault>
         ensures { number_of (place self.old) ≡ (read result, place self.new) }
     {
-        let high = self.byte()? as u16;
-        let low = self.byte()? as u16;
-        Ok(high * 256 + low)
+        Ok(u16::from_be_bytes([self.byte()?, self.byte()?]))
     }
 
     // Four bytes, the highest first.
     pub fn word(&mut self) -> Result<u32, LengthFault>
         ensures { word_of (place self.old) ≡ (read result, place self.new) }
     {
-        let high = self.number()? as u32;
-        let low = self.number()? as u32;
-        Ok(high * 65536 + low)
+        Ok(u32::from_be_bytes([self.byte()?, self.byte()?, self.byte()?, self.byte()?]))
     }
 
     // A length field.
@@ -94,23 +78,10 @@ impl<'a> Cursor<'a> {
         ensures { length_field (place self.old) ≡ (read result, place self.new) }
     {
         match self.byte()? {
-            short if short < 0x80 => Ok(short as usize),
-            0x81 => Ok(self.byte()? as usize),
-            0x82 => Ok(self.number()? as usize),
+            short if short < 0x80 => Ok(usize::from(short)),
+            0x81 => Ok(usize::from(self.byte()?)),
+            0x82 => Ok(usize::from(self.number()?)),
             _ => Err(LengthFault),
-        }
-    }
-
-    // The next n bytes as a cursor of their own.
-    fn take(&mut self, n: usize) -> Cursor<'a>
-        requires { n ≤ length self.old.left.now }
-        ensures { split n (place self.old) ≡ (place result, place self.new) }
-    {
-        let left = self.left;
-        self.left = &left[n..];
-        Cursor {
-            left: &left[0..n],
-            end: self.end.saturating_sub(left.len() - n),
         }
     }
 
@@ -119,10 +90,15 @@ impl<'a> Cursor<'a> {
         ensures { field_of size (place self.old) ≡ (read_place result, place self.new) }
     {
         let n = self.length()?;
-        if !size.admits(n) || n > self.left.len() {
+        if !size.admits(n) {
             return Err(LengthFault);
         }
-        Ok(self.take(n))
+        let (here, rest) = self.left.split_at_checked(n).ok_or(LengthFault)?;
+        self.left = rest;
+        Ok(Cursor {
+            left: here,
+            end: self.end.saturating_sub(rest.len()),
+        })
     }
 
     // All that is left.
@@ -139,10 +115,10 @@ impl<'a> Cursor<'a> {
     pub fn finish(&self) -> Result<(), LengthFault>
         ensures { finished (place self.now) ≡ read result }
     {
-        let left = self.left;
-        match left {
-            [] => Ok(()),
-            _ => Err(LengthFault),
+        if self.left.is_empty() {
+            Ok(())
+        } else {
+            Err(LengthFault)
         }
     }
 }
