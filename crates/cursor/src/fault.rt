@@ -1,7 +1,10 @@
 // What is wrong with a unit, layer by layer.
-ghost use Rattle.std.specs.Prelude.{◌≡◌};
+ghost use Rattle.std.specs.Prelude.{◌≡◌, Some};
 ghost use Rattle.cursor.specs.declared.fault.Fault.TheVariants.{Length};
 ghost use Rattle.cursor.specs.declared.fault.LinkFault.TheVariants.{Short};
+ghost use Rattle.cursor.specs.Names.{fault as fault_name, link_fault as link_name};
+
+use std::fmt;
 
 // The first thing at fault in a unit, reading forward.
 #[derive(Clone, Copy, PartialEq, Eq, Debug)]
@@ -9,6 +12,18 @@ pub enum Fault {
     Tag,
     Length,
     Content,
+}
+
+impl fmt::Display for Fault {
+    ghost output = { λ f. Some (fault_name f) };
+
+    fn fmt<W: fmt::Write>(&self, f: &mut fmt::Formatter<W>) -> fmt::Result {
+        f.write_str(match self {
+            Fault::Tag => "tag",
+            Fault::Length => "length",
+            Fault::Content => "content",
+        })
+    }
 }
 
 // A length field that is malformed or not allowed, or bytes that are missing or over.
@@ -23,6 +38,20 @@ pub enum LinkFault {
     Mark,
 }
 
+impl fmt::Display for LinkFault {
+    ghost output = { λ f. Some (link_name f) };
+
+    fn fmt<W: fmt::Write>(&self, f: &mut fmt::Formatter<W>) -> fmt::Result {
+        f.write_str(match self {
+            LinkFault::Short => "short",
+            LinkFault::Long => "long",
+            LinkFault::Connection => "connection",
+            LinkFault::Mark => "mark",
+        })
+    }
+}
+
+// Three types, so that `?` tells by the layer which refusal it makes; `impl<T: Layer> From<LengthFault> for T` is refused, as `T` stands alone there.
 #[derive(Clone, Copy, PartialEq, Eq, Debug)]
 pub struct TransportFault(pub Fault);
 

@@ -2,10 +2,11 @@
 #![tactic(auto)]
 
 ghost use Rattle.std.specs.Prelude.{◌≡◌};
-ghost use Rattle.joiner.specs.Keeping.{empty, added, ran_out};
+ghost use Rattle.joiner.specs.declared.Refusal.TheVariants.{Memory};
+ghost use Rattle.joiner.specs.Keeping.{empty, added, ran_out, bytes as bytes_of};
 ghost use Rattle.joiner.specs.Views.{held};
 
-use std::alloc::Global;
+use std::alloc::{AllocError, Global};
 
 // Why bytes were not added: they are past the limit, and the unit is dropped, or there is no memory for them.
 #[derive(Clone, Copy, PartialEq, Eq, Debug)]
@@ -14,12 +15,20 @@ pub enum Refusal {
     Memory,
 }
 
+impl From<AllocError> for Refusal {
+    ghost from_gives = { λ _ r. r ≡ Memory };
+
+    fn from(_e: AllocError) -> Refusal {
+        Refusal::Memory
+    }
+}
+
 // The bytes of a unit so far, at most as many as the limit. Once a unit is dropped, so is all that is added to it.
 #[derive(Drop)]
 pub struct Kept {
+    heap: Global,
     limit: usize,
-    dropped: bool,
-    bytes: Vec<u8>,
+    unit: Option<Vec<u8>>,
 }
 
 impl Kept {
@@ -27,9 +36,9 @@ impl Kept {
         ensures { held result ≡ empty limit }
     {
         Kept {
+            heap,
             limit,
-            dropped: false,
-            bytes: Vec::new(heap),
+            unit: Some(Vec::new(heap)),
         }
     }
 
@@ -37,30 +46,30 @@ impl Kept {
     pub fn add(&mut self, part: &[u8]) -> Result<(), Refusal>
         ensures { added (ran_out result) part.now (held self.old) ≡ (result, held self.new) }
     {
-        if self.dropped || part.len() > self.limit.saturating_sub(self.bytes.len()) {
-            self.bytes.clear();
-            self.dropped = true;
-            return Err(Refusal::Limit);
-        }
-        match self.bytes.extend_from_slice(part) {
-            Ok(()) => Ok(()),
-            Err(_) => Err(Refusal::Memory),
+        match &mut self.unit {
+            Some(bytes) if part.len() <= self.limit.saturating_sub(bytes.len()) => {
+                bytes.extend_from_slice(part)?;
+                Ok(())
+            }
+            _ => {
+                self.unit = None;
+                Err(Refusal::Limit)
+            }
         }
     }
 
     // What there is of the unit.
     pub fn bytes(&self) -> &[u8]
-        ensures { result.now ≡ (held self.now).bytes }
+        ensures { result.now ≡ bytes_of (held self.now) }
     {
-        self.bytes.as_slice()
+        self.unit.as_ref().map_or(&[], |bytes| bytes.as_slice())
     }
 
     // The unit ends, and the next begins.
     pub fn clear(&mut self)
         ensures { held self.new ≡ empty self.old.limit }
     {
-        self.bytes.clear();
-        self.dropped = false;
+        self.unit.get_or_insert(Vec::new(self.heap)).clear();
     }
 }
 

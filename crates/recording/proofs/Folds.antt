@@ -1,10 +1,16 @@
--- A loop that goes over a list from a state to a state: one step, and its end.
-use Rattle.std.proofs.Common.{◌≡◌, ℕ, ◌+◌, ◌<◌, ◌≤◌, List, length, get_or, take, fold, sym, ap, ◌∙◌}
+-- Steps over a list from a state to a state, until one is at fault: one step, a fault, and the end.
+use Rattle.std.proofs.Common.{◌≡◌, ℕ, ◌+◌, ◌<◌, ◌≤◌, List, length, get_or, take, Option, Some, None, sym, ap, refl, ◌∙◌}
 use Rattle.std.proofs.lemmas.List.{take_all}
-use Rattle.std.proofs.lemmas.List.Sums.{fold_more as folded_more}
+use Rattle.std.proofs.lemmas.List.Sums.{fold_more}
+use Rattle.std.proofs.lemmas.List.Folds.{fold_stuck}
+use Rattle.recording.specs.Hex.{onward, run}
 
-pub fold_more : {X Y : Type 0} (f : Y → X → Y) (a s t : Y) (xs : List X) (i : ℕ) (d : X) → i < length xs → fold f a (take i xs) ≡ s → f s (get_or xs i d) ≡ t → fold f a (take (i + 1) xs) ≡ t
-fold_more f a s t xs i d lt inv e = folded_more f a xs i d lt ∙ ap (λ y. f y (get_or xs i d)) inv ∙ e
+module _ {X Y : Type 0} (f : Y → X → Option Y) (a : Y) (xs : List X) (i : ℕ) where
+  pub run_more : (s t : Y) (d : X) → i < length xs → run f a (take i xs) ≡ Some s → f s (get_or xs i d) ≡ Some t → run f a (take (i + 1) xs) ≡ Some t
+  run_more s t d lt inv e = fold_more (onward f) (Some a) xs i d lt ∙ ap (λ o. onward f o (get_or xs i d)) inv ∙ e
 
-pub fold_all : {X Y : Type 0} (f : Y → X → Y) (a s : Y) (xs : List X) (i : ℕ) → length xs ≤ i → fold f a (take i xs) ≡ s → fold f a xs ≡ s
-fold_all f a s xs i past inv = ap (λ ys. fold f a ys) (sym (take_all i xs past)) ∙ inv
+  pub run_stuck : (s : Y) (d : X) → i < length xs → run f a (take i xs) ≡ Some s → f s (get_or xs i d) ≡ None → run f a xs ≡ None
+  run_stuck s d lt inv e = sym (fold_stuck (onward f) None (λ x. refl) (Some a) xs i d lt (ap (λ o. onward f o (get_or xs i d)) inv ∙ e))
+
+  pub run_all : (s : Y) → length xs ≤ i → run f a (take i xs) ≡ Some s → run f a xs ≡ Some s
+  run_all s past inv = ap (run f a) (sym (take_all i xs past)) ∙ inv

@@ -1,7 +1,8 @@
 -- Bytes written as two hexadecimal digits each, with blanks between them.
 use Rattle.std.specs.Prelude.{ℕ, ◌+◌, ◌-◌, ◌*◌, Bool, true, false, cond, ◌&&◌, ◌||◌, List, [], ◌∷◌, ◌++◌, Some, None, fold, Option, ◌==◌, nat_le}
+use Rattle.std.specs.Option.{option_map, option_and_then}
 use Rattle.recording.specs.declared.Spot.{Spot}
-use Rattle.recording.specs.declared.Spot.TheVariants.{Word, Gap, Half, Byte, Wrong}
+use Rattle.recording.specs.declared.Spot.TheVariants.{Word, Gap, Half, Byte}
 
 -- a space or a tab
 abbrev pub is_blank : ℕ → Bool
@@ -27,17 +28,12 @@ joined (Some h) (Some l) = Some (h * 16 + l)
 abbrev pub pair : ℕ → ℕ → Option ℕ
 pair a b = joined (digit a) (digit b)
 
-abbrev byte_spot : Option ℕ → Spot
-byte_spot (Some b) = Byte b
-byte_spot None = Wrong
-
--- where a line stands after one character more: a blank has to follow the line's first word and each byte
-abbrev pub after : Spot → ℕ → Spot
-after Word c = cond (is_blank c) Gap Wrong
-after Gap c = cond (is_blank c) Gap (Half c)
-after (Half a) c = byte_spot (pair a c)
-after (Byte b) c = cond (is_blank c) Gap Wrong
-after Wrong c = Wrong
+-- where a line stands after one character more, unless that is at fault: a blank has to follow the line's first word and each byte
+abbrev pub after : Spot → ℕ → Option Spot
+after Word c = cond (is_blank c) (Some Gap) None
+after Gap c = Some (cond (is_blank c) Gap (Half c))
+after (Half a) c = option_map (λ b. Byte b) (pair a c)
+after (Byte b) c = cond (is_blank c) (Some Gap) None
 
 -- whether a line may end there
 abbrev pub whole : Spot → Bool
@@ -45,7 +41,6 @@ whole Word = true
 whole Gap = true
 whole (Half a) = false
 whole (Byte b) = true
-whole Wrong = false
 
 -- the bytes so far, with the one that was just read
 abbrev pub taken : Spot → List ℕ → List ℕ
@@ -53,7 +48,6 @@ taken Word bs = bs
 taken Gap bs = bs
 taken (Half a) bs = bs
 taken (Byte b) bs = bs ++ b ∷ []
-taken Wrong bs = bs
 
 -- where a line stands, and the bytes so far
 pub record Reading : Type 0 where
@@ -63,9 +57,17 @@ pub record Reading : Type 0 where
 abbrev pub held : Spot → List ℕ → Reading
 held s bs = record { spot = s; bytes = bs }
 
-abbrev pub read_one : Reading → ℕ → Reading
-read_one r c = held (after r.spot c) (taken (after r.spot c) r.bytes)
+abbrev pub read_one : Reading → ℕ → Option Reading
+read_one r c = option_map (λ s. held s (taken s r.bytes)) (after r.spot c)
+
+-- a step from what there is, where there is no fault so far
+abbrev pub onward : {X Y : Type 0} → (Y → X → Option Y) → Option Y → X → Option Y
+onward f o x = option_and_then (λ y. f y x) o
+
+-- all steps from a state, unless one is at fault
+abbrev pub run : {X Y : Type 0} → (Y → X → Option Y) → Y → List X → Option Y
+run f y xs = fold (onward f) (Some y) xs
 
 -- all of a line after its first word
-abbrev pub read_all : List ℕ → List ℕ → Reading
-read_all bs text = fold read_one (held Word bs) text
+abbrev pub read_all : List ℕ → List ℕ → Option Reading
+read_all bs text = run read_one (held Word bs) text

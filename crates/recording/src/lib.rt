@@ -1,11 +1,14 @@
 // Recordings: lines of text that show the LPDUs that went between a host and a module.
 #![tactic(auto)]
 
-ghost use Rattle.std.specs.Prelude.{◌≡◌, ◌<◌, [], IfSome, IfOk, MatchResult};
+ghost use Rattle.std.specs.Prelude.{◌≡◌, ◌<◌, IfSome};
+ghost use Rattle.std.specs.Option.{ok_or};
+ghost use Rattle.recording.specs.declared.LineError.TheVariants.{Bad, Memory};
+ghost use Rattle.recording.specs.declared.Reason.TheVariants as is;
 ghost use Rattle.recording.specs.Hex.{is_blank, digit as digit_of, pair as pair_of, after, whole, held, read_one, read_all};
-ghost use Rattle.recording.specs.Lines.{said, carries as carrying, told, all_blank, slot_after, slot_line, slot_place, lpdu_line, word_line, parsed};
+ghost use Rattle.recording.specs.Lines.{Answers, told, all_blank, slot_after, number as number_of, slot_number, lpdu_line, word_line, parsed, ran_out, answered};
 
-use std::alloc::AllocError;
+use std::alloc::AllocFailed;
 
 // Who sent an LPDU.
 #[derive(Clone, Copy, PartialEq, Eq, Debug)]
@@ -29,123 +32,117 @@ pub enum Line {
     Blank,
     Slot(u8),
     Lpdu(Direction),
-    Bad(Reason),
 }
 
-impl Line {
-    // Whether bytes come with it.
-    fn carries(self) -> bool
-        ensures { result ≡ carrying self }
-    {
-        match self {
-            Line::Lpdu(_) => true,
-            Line::Blank | Line::Slot(_) | Line::Bad(_) => false,
-        }
+// Why a line is not read: it is none of a recording, or there is no memory for its bytes.
+#[derive(Clone, Copy, PartialEq, Eq, Debug)]
+pub enum LineError {
+    Bad(Reason),
+    Memory,
+}
+
+impl From<Reason> for LineError {
+    ghost from_gives = { λ why e. e ≡ Bad why };
+
+    fn from(why: Reason) -> LineError {
+        LineError::Bad(why)
+    }
+}
+
+impl<T: Drop> From<AllocFailed<T>> for LineError {
+    ghost from_gives = { λ _ e. e ≡ Memory };
+
+    fn from(_e: AllocFailed<T>) -> LineError {
+        LineError::Memory
     }
 }
 
 // The longest line that is read, in bytes.
 pub const LONGEST: usize = 8192;
 
-// Where a line stands: after its first word, after a blank, after a byte's first digit, after a byte, or after a fault.
+// Where a line stands: after its first word, after a blank, after a byte's first digit, or after a byte.
 #[derive(Clone, Copy)]
 enum Spot {
     Word,
     Gap,
     Half(u8),
     Byte(u8),
-    Wrong,
 }
 
-// Where a line stands that tells a slot: after its first word, a blank, the number, a blank after it, or a fault.
+// Where a line stands that tells a slot: after its first word, a blank, the number, or a blank after it.
 #[derive(Clone, Copy)]
 enum Place {
     Word,
     Gap,
     Number(u8),
     End(u8),
-    Wrong,
 }
 
 fn blank(c: u8) -> bool
     ensures { result ≡ is_blank c }
 {
-    c == b' ' || c == b'\t'
+    matches!(c, b' ' | b'\t')
 }
 
 fn digit(c: u8) -> Option<u8>
     ensures value { result ≡ digit_of c }
     ensures bound { IfSome result (λ d. d < 16) }
 {
-    match c {
-        b'0'..=b'9' => Some(c - b'0'),
-        b'A'..=b'F' => Some(c - b'A' + 10),
-        b'a'..=b'f' => Some(c - b'a' + 10),
-        _ => None,
-    }
+    (c as char).to_digit(16).map(|d| d as u8)
 }
 
 fn pair(a: u8, b: u8) -> Option<u8>
     ensures { result ≡ pair_of a b }
 {
-    let high = digit(a)?;
-    let low = digit(b)?;
-    Some(high * 16 + low)
+    Some(digit(a)? * 16 + digit(b)?)
 }
 
 impl Spot {
-    fn next(self, c: u8) -> Spot
+    fn next(self, c: u8) -> Option<Spot>
         ensures { result ≡ after self c }
     {
         match self {
-            Spot::Word | Spot::Byte(_) if blank(c) => Spot::Gap,
-            Spot::Gap if blank(c) => Spot::Gap,
-            Spot::Gap => Spot::Half(c),
-            Spot::Half(a) => match pair(a, c) {
-                Some(b) => Spot::Byte(b),
-                None => Spot::Wrong,
-            },
-            _ => Spot::Wrong,
+            Spot::Half(a) => pair(a, c).map(Spot::Byte),
+            _ if blank(c) => Some(Spot::Gap),
+            Spot::Gap => Some(Spot::Half(c)),
+            Spot::Word | Spot::Byte(_) => None,
         }
     }
 
     fn ends(self) -> bool
         ensures { result ≡ whole self }
     {
-        match self {
-            Spot::Word | Spot::Gap | Spot::Byte(_) => true,
-            Spot::Half(_) | Spot::Wrong => false,
-        }
+        !matches!(self, Spot::Half(_))
     }
 }
 
 impl Place {
-    fn next(self, c: u8) -> Place
+    fn next(self, c: u8) -> Option<Place>
         ensures { result ≡ slot_after self c }
     {
-        match self {
-            Place::Word | Place::Gap if blank(c) => Place::Gap,
-            Place::Gap if c >= b'0' && c <= b'3' => Place::Number(c - b'0'),
-            Place::Number(n) | Place::End(n) if blank(c) => Place::End(n),
-            _ => Place::Wrong,
+        match (self, c) {
+            (Place::Word | Place::Gap, _) if blank(c) => Some(Place::Gap),
+            (Place::Number(n) | Place::End(n), _) if blank(c) => Some(Place::End(n)),
+            (Place::Gap, b'0'..=b'3') => Some(Place::Number(c - b'0')),
+            _ => None,
         }
     }
 
-    fn line(self) -> Line
-        ensures { result ≡ slot_line self }
+    fn number(self) -> Option<u8>
+        ensures { result ≡ number_of self }
     {
         match self {
-            Place::Number(n) | Place::End(n) => Line::Slot(n),
-            Place::Word | Place::Gap | Place::Wrong => Line::Bad(Reason::Slot),
+            Place::Number(n) | Place::End(n) => Some(n),
+            Place::Word | Place::Gap => None,
         }
     }
 }
 
 // Reads one character more of an LPDU.
-fn feed(spot: Spot, c: u8, bytes: &mut Vec<u8>) -> Result<Spot, AllocError>
-    ensures { IfOk result (λ s. read_one (held spot bytes.old.items) c ≡ held s bytes.new.items) }
+fn feed(spot: Spot, c: u8, bytes: &mut Vec<u8>) -> Result<Spot, LineError>
+    ensures { Answers (ok_or (read_one (held spot bytes.old.items) c) is.Hex) (λ s. held s bytes.new.items) result }
 {
-    let next = spot.next(c);
+    let next = spot.next(c).ok_or(Reason::Hex)?;
     if let Spot::Byte(b) = next {
         bytes.push(b)?;
     }
@@ -153,8 +150,8 @@ fn feed(spot: Spot, c: u8, bytes: &mut Vec<u8>) -> Result<Spot, AllocError>
 }
 
 // Reads the bytes of an LPDU.
-fn read(text: &[u8], bytes: &mut Vec<u8>) -> Result<Spot, AllocError>
-    ensures { IfOk result (λ s. read_all bytes.old.items text.now ≡ held s bytes.new.items) }
+fn read(text: &[u8], bytes: &mut Vec<u8>) -> Result<Spot, LineError>
+    ensures { Answers (ok_or (read_all bytes.old.items text.now) is.Hex) (λ s. held s bytes.new.items) result }
 {
     let mut spot = Spot::Word;
     for c in text {
@@ -166,53 +163,51 @@ fn read(text: &[u8], bytes: &mut Vec<u8>) -> Result<Spot, AllocError>
 fn only_blanks(text: &[u8]) -> bool
     ensures { result ≡ all_blank text.now }
 {
-    for c in text {
-        if !blank(*c) {
-            return false;
-        }
-    }
-    true
+    text.iter().all(|c| blank(*c))
 }
 
 // Reads the number of a slot.
-fn read_slot(text: &[u8]) -> Place
-    ensures { slot_place text.now ≡ result }
+#[tactic(auto, using(crate::proofs::Folds::run_stuck))]
+fn slot(text: &[u8]) -> Option<u8>
+    ensures { result ≡ slot_number text.now }
 {
     let mut place = Place::Word;
     for c in text {
-        place = place.next(*c);
+        place = place.next(*c)?;
     }
-    place
+    place.number()
 }
 
-fn lpdu(direction: Direction, text: &[u8], bytes: &mut Vec<u8>) -> Result<Line, AllocError>
-    ensures { IfOk result (λ l. lpdu_line direction text.now ≡ told l bytes.new.items) }
+fn lpdu(direction: Direction, text: &[u8], bytes: &mut Vec<u8>) -> Result<Line, LineError>
+    ensures { Answers (lpdu_line direction text.now) (λ l. told l bytes.new.items) result }
 {
     bytes.clear();
     if read(text, bytes)?.ends() {
         Ok(Line::Lpdu(direction))
     } else {
-        Ok(Line::Bad(Reason::Hex))
+        Err(LineError::Bad(Reason::Hex))
     }
 }
 
-fn by_word(line: &[u8], bytes: &mut Vec<u8>) -> Result<Line, AllocError>
-    ensures { IfOk result (λ l. word_line line.now ≡ told l bytes.new.items) }
+fn by_word(line: &[u8], bytes: &mut Vec<u8>) -> Result<Line, LineError>
+    ensures { Answers (word_line line.now) (λ l. told l bytes.new.items) result }
 {
     match line {
         [b'#', ..] => Ok(Line::Blank),
         [b'>', rest @ ..] => lpdu(Direction::FromHost, rest, bytes),
         [b'<', rest @ ..] => lpdu(Direction::FromModule, rest, bytes),
-        [b's', b'l', b'o', b't', rest @ ..] => Ok(read_slot(rest).line()),
-        _ => Ok(Line::Bad(Reason::Word)),
+        [b's', b'l', b'o', b't', rest @ ..] => slot(rest)
+            .map(Line::Slot)
+            .ok_or(LineError::Bad(Reason::Slot)),
+        _ => Err(LineError::Bad(Reason::Word)),
     }
 }
 
-fn scan(line: &[u8], bytes: &mut Vec<u8>) -> Result<Line, AllocError>
-    ensures { IfOk result (λ l. parsed line.now ≡ told l bytes.new.items) }
+fn scan(line: &[u8], bytes: &mut Vec<u8>) -> Result<Line, LineError>
+    ensures { Answers (parsed line.now) (λ l. told l bytes.new.items) result }
 {
     if line.len() > LONGEST {
-        return Ok(Line::Bad(Reason::Long));
+        return Err(LineError::Bad(Reason::Long));
     }
     if only_blanks(line) {
         return Ok(Line::Blank);
@@ -221,16 +216,14 @@ fn scan(line: &[u8], bytes: &mut Vec<u8>) -> Result<Line, AllocError>
 }
 
 // What a line says. The bytes of an LPDU are put into `bytes`, which is left empty where there is none.
-pub fn parse(line: &[u8], bytes: &mut Vec<u8>) -> Result<Line, AllocError>
-    ensures { MatchResult result (λ l. parsed line.now ≡ said l bytes.new.items) (λ _. bytes.new.items ≡ []) }
+pub fn parse(line: &[u8], bytes: &mut Vec<u8>) -> Result<Line, LineError>
+    ensures { answered (ran_out result) line.now ≡ (result, bytes.new.items) }
 {
-    match scan(line, bytes) {
-        Ok(line) if line.carries() => Ok(line),
-        other => {
-            bytes.clear();
-            other
-        }
+    let said = scan(line, bytes);
+    if !matches!(said, Ok(Line::Lpdu(_))) {
+        bytes.clear();
     }
+    said
 }
 
 #[cfg(test)]
@@ -259,17 +252,20 @@ mod tests {
         let mut bytes = Vec::new(rt.alloc());
         let lines: [&[u8]; 6] = [b"> 1", b"> 0G", b"> 0100", b">01", b"< 01 0 0", b"> 01 x"];
         for line in lines {
-            assert_eq!(rt; parse(line, &mut bytes)?, Line::Bad(Reason::Hex));
+            assert_eq!(rt; parse(line, &mut bytes), Err(LineError::Bad(Reason::Hex)));
         }
         let slots: [&[u8]; 5] = [b"slot", b"slot 4", b"slot3", b"slot 1 2", b"slot 00"];
         for line in slots {
-            assert_eq!(rt; parse(line, &mut bytes)?, Line::Bad(Reason::Slot));
+            assert_eq!(rt; parse(line, &mut bytes), Err(LineError::Bad(Reason::Slot)));
         }
         let words: [&[u8]; 4] = [b"01 00", b" > 01", b"slo", b"Slot 1"];
         for line in words {
-            assert_eq!(rt; parse(line, &mut bytes)?, Line::Bad(Reason::Word));
+            assert_eq!(rt; parse(line, &mut bytes), Err(LineError::Bad(Reason::Word)));
         }
-        assert_eq!(rt; parse(&[b' '; 8193], &mut bytes)?, Line::Bad(Reason::Long));
+        assert_eq!(rt;
+            parse(&[b' '; 8193], &mut bytes),
+            Err(LineError::Bad(Reason::Long))
+        );
         Ok(())
     }
 }
