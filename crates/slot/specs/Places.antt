@@ -1,10 +1,10 @@
 -- A place before and after: it lends the same record and resource, at the same number, and what is done to them is said as in Stand.
-use Rattle.std.specs.Prelude.{◌≡◌, ℕ, Ok, Err, Result}
+use Rattle.std.specs.Prelude.{◌≡◌, ℕ, Result}
 use Rattle.refusal.specs.declared.Refusal.{Refusal}
 use Rattle.resource.specs.Meaning.{Meaning}
 use Rattle.protocol.specs.Calls.{Act, Stand, Answer, Served, act}
 use Rattle.slot.specs.declared.Place.{Place}
-use Rattle.slot.specs.Stand.{stand_at, Step, Try, Serves}
+use Rattle.slot.specs.Stand.{Step, Try, Serves}
 
 -- the same references and the same number
 pub record Same {S : Type 0} (p p' : Place S) : Type 0 where
@@ -16,6 +16,10 @@ module _ {S : Type 0} (M : Meaning S) where
   pub record StepAt (f : M.Made → ℕ → Stand M.Share → Stand M.Share) (p p' : Place S) : Type 0 where
     pub same : Same p p'
     pub step : Step M p.at f p.slot.now p.resource.now p'.slot.now p'.resource.now
+
+  pub record TryAt (f : M.Made → ℕ → Stand M.Share → Result (Stand M.Share) Refusal) (r : Result (Unit {0}) Refusal) (p p' : Place S) : Type 0 where
+    pub same : Same p p'
+    pub tried : Try M p.at f r p.slot.now p.resource.now p'.slot.now p'.resource.now
 
   pub record ServesAt (f : M.Made → ℕ → Stand M.Share → Result (Served M.Share) Refusal) (r : Result Answer Refusal) (p p' : Place S) : Type 0 where
     pub same : Same p p'

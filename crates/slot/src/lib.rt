@@ -1,17 +1,27 @@
 // Calls on a slot's record beside a resource: those that end connections and sessions.
 #![tactic(auto)]
 
-ghost use Rattle.std.specs.Prelude.{false, Ok};
+ghost use Rattle.std.specs.Prelude.{◌≡◌, false, Ok, None, if◌then◌else◌};
 ghost use Rattle.resource.specs.Tables.{numbers};
 ghost use Rattle.protocol.specs.Calls.{close_row, close_all as closed_all, leave as leaving, plug as plugging, pull as pulling, end as ending, expire as expiring, done};
+ghost use Rattle.protocol.specs.Record.{on};
+ghost use Rattle.record.specs.Records.{slot_of, numbered, session_view};
 ghost use Rattle.slot.specs.Stand.{plainly};
 ghost use Rattle.slot.specs.Places.{StepAt, DidAt};
 
 use protocol::State;
 use record::number::{AgreedSize, ConnectionId};
-use record::slots::Record;
+use record::slots::{Record, Session};
 use refusal::Refusal;
 use resource::Resource;
+
+// The session with the number, if it is on the connection.
+pub fn session_on(slot: &Record, c: ConnectionId, number: u16) -> Option<Session>
+    ensures { let row = (slot_of slot.now).rows number in session_view result ≡ (if on c.number row then numbered number row else None) }
+{
+    slot.session(number)
+        .filter(|session| session.row.connection == c.get())
+}
 
 // A slot's record, with the resource that is told of its sessions and the slot's number there.
 #[derive(Drop)]
@@ -26,9 +36,7 @@ impl<'a, R: Resource> Place<'a, R> {
     pub fn close_row(&mut self, c: ConnectionId, number: u16)
         ensures { StepAt R.Resource.meaning (λ made k st. close_row R.Resource.meaning made k c.number (st.slot.rows number) number st) self.old self.new }
     {
-        if let Some(session) = self.slot.session(number)
-            && session.row.connection == c.get()
-        {
+        if let Some(session) = session_on(self.slot, c, number) {
             self.resource
                 .closed(self.at, session.row.identifier, session.number.get());
             self.slot.set_row(session.number, None);
