@@ -99,7 +99,9 @@ fn close<R: Resource>(place: &mut Place<'_, R>, c: ConnectionId, number: u16)
         CloseStatus::NotOpen
     };
     place.close_row(c, number);
-    place.slot.owe(c, Owed::Say(Reply::Closed(status as u8, number)));
+    place
+        .slot
+        .owe(c, Owed::Say(Reply::Closed(status as u8, number)));
 }
 
 // An object comes for a session: what is owed for it. Its bytes lie in the record, so that it is lent apart from the resource.
