@@ -1,5 +1,5 @@
 -- What a feed reads and answers.
-use Rattle.std.specs.Prelude.{◌≡◌, ℕ, Bool, true, false, List, ◌++◌, length, take, drop, Ok, Err, Result, nat_lt}
+use Rattle.std.specs.Prelude.{◌≡◌, ℕ, Bool, true, false, List, ◌++◌, length, take, drop, Ok, Err, Result, ◌+◌, nat_lt, nat_le}
 use Rattle.cursor.specs.declared.Part.{Part}
 use Rattle.cursor.specs.declared.fault.TransportFault.{TransportFault}
 use Rattle.cursor.specs.Reading.{Placed}
@@ -10,9 +10,10 @@ use Rattle.refusal.specs.declared.Refusal.{Refusal}
 use Rattle.refusal.specs.declared.Refusal.TheVariants as no
 use Rattle.resource.specs.Meaning.{Meaning}
 use Rattle.protocol.specs.Results.{refuse}
-use Rattle.protocol.specs.Record.{joining}
+use Rattle.protocol.specs.Record.{Slot, Conn, joining}
 use Rattle.protocol.specs.Calls.{Stand, Served, Answer, done, turn_back, changed, joined}
-use Rattle.record.specs.Views.{part_of}
+use Rattle.record.specs.Views.{part_of, chaining}
+use Rattle.record.specs.Records.{alter}
 
 -- whether the turn comes back for more
 abbrev pub turned : Result Bool Refusal → Result Answer Refusal
@@ -40,6 +41,15 @@ Found bs (Err e) = Unit {0}
 -- a part of a connection's fragments
 abbrev pub placed : {A : Type 0} → ℕ → ℕ → ℕ → Stand A → Placed
 placed c start n st = record { offset = start; bytes = part_of start n (st.slot.conn c) }
+
+-- whether there is room for a part of a connection's fragments beside its data
+abbrev pub fits_data : ℕ → ℕ → Conn → Bool
+fits_data start n x = nat_le (length x.chained + length (part_of start n x)) 2048
+
+-- data join those before them; or there is no room for them, and nothing changes
+abbrev pub Added : ℕ → ℕ → ℕ → Result (Unit {0}) Refusal → Slot → Slot → Type 0
+Added c start n (Ok u) before after = (fits_data start n (before.conn c) ≡ true) × (after ≡ alter c (chaining start n) before)
+Added c start n (Err e) before after = (fits_data start n (before.conn c) ≡ false) × (after ≡ before) × (e ≡ no.Data)
 
 -- a fragment joins those before it, if there is room; then more are to come, or it was the last
 module _ {S : Type 0} (M : Meaning S) (made : M.Made) (at : ℕ) where

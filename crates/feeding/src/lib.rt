@@ -1,15 +1,15 @@
 // What a connection hears: fragments, transport units and their data.
 #![tactic(auto)]
 
-ghost use Rattle.std.specs.Prelude.{◌≡◌, Ok};
+ghost use Rattle.std.specs.Prelude.{◌≡◌, length, Ok};
 ghost use Rattle.tpdu.specs.declared.Object.TheVariants.{More, Last};
 ghost use Rattle.tpdu.specs.Transport.{read_response};
 ghost use Rattle.tpdu.specs.Views.{transport_response};
 ghost use Rattle.protocol.specs.declared.State.TheVariants.{Active};
-ghost use Rattle.protocol.specs.Record.{is_idle as idle, hears};
 ghost use Rattle.protocol.specs.Calls.{taken, whole, feed as feeds};
-ghost use Rattle.slot.specs.Stand.{Try, Serves, Did};
-ghost use Rattle.feeding.specs.Feed.{turned, Found, placed, joins};
+ghost use Rattle.record.specs.Records.{slot_of};
+ghost use Rattle.slot.specs.Places.{TryAt, ServesAt, DidAt};
+ghost use Rattle.feeding.specs.Feed.{turned, Found, placed, joins, Added};
 
 use cursor::Part;
 use cursor::fault::TransportFault;
@@ -20,7 +20,7 @@ use record::slots::Record;
 use refusal::Refusal;
 use resource::Resource;
 use session::hear_session;
-use slot::leave;
+use slot::Place;
 use tpdu::{Object, Response, TpduReader};
 
 // A module's TPDU, and that its data are what stands at their offset.
@@ -31,100 +31,105 @@ fn read(bytes: &[u8], c: ConnectionId) -> Result<Response<Part<'_>>, TransportFa
     TpduReader::new(bytes).response(c.get())
 }
 
+// Where in a connection's fragments the data of a unit lie.
+#[derive(Clone, Copy)]
+struct Span {
+    start: usize,
+    length: usize,
+}
+
+impl From<Part<'_>> for Span {
+    ghost from_gives = { λ p s. s ≡ record { start = p.offset; length = length p.bytes.now } };
+
+    fn from(part: Part<'_>) -> Span {
+        Span {
+            start: part.offset,
+            length: part.bytes.len(),
+        }
+    }
+}
+
+// Data join those before them, if there is room.
+fn add(slot: &mut Record, c: ConnectionId, span: Span) -> Result<(), Refusal>
+    ensures { Added c.number span.start span.length result (slot_of slot.old) (slot_of slot.new) }
+{
+    if slot.chain(c, span.start, span.length) {
+        Ok(())
+    } else {
+        Err(Refusal::Data)
+    }
+}
+
 // Data are added, and more will follow.
 fn add_more<R: Resource>(
-    slot: &mut Record,
-    resource: &mut R,
-    at: u8,
+    place: &mut Place<'_, R>,
     c: ConnectionId,
     available: bool,
-    start: usize,
-    n: usize,
+    span: Span,
 ) -> Result<(), Refusal>
-    ensures { Try R.Resource.meaning at (λ made k st. taken R.Resource.meaning made k c.number Active (More (placed c.number start n st)) available st) result slot.old resource.old slot.new resource.new }
+    ensures { TryAt R.Resource.meaning (λ made k st. taken R.Resource.meaning made k c.number Active (More (placed c.number span.start span.length st)) available st) result place.old place.new }
 {
-    if !slot.chain(c, start, n) {
-        return Err(Refusal::Data);
-    }
-    slot.hear(c, available);
+    add(place.slot, c, span)?;
+    place.slot.hear(c, available);
     Ok(())
 }
 
 // Data are added, and all of them are a session unit.
 fn add_last<R: Resource>(
-    slot: &mut Record,
-    resource: &mut R,
-    at: u8,
+    place: &mut Place<'_, R>,
     c: ConnectionId,
     available: bool,
-    start: usize,
-    n: usize,
+    span: Span,
 ) -> Result<(), Refusal>
-    ensures { Try R.Resource.meaning at (λ made k st. taken R.Resource.meaning made k c.number Active (Last (placed c.number start n st)) available st) result slot.old resource.old slot.new resource.new }
+    ensures { TryAt R.Resource.meaning (λ made k st. taken R.Resource.meaning made k c.number Active (Last (placed c.number span.start span.length st)) available st) result place.old place.new }
 {
-    let held = slot.connection(c).chained().len();
-    if !slot.chain(c, start, n) {
-        return Err(Refusal::Data);
+    let held = place.slot.connection(c).chained().len();
+    add(place.slot, c, span)?;
+    // Not inspect_err: a proof does not know what its closure leaves of the record.
+    if let Err(e) = hear_session(place, c, available) {
+        place.slot.cut_data(c, held);
+        return Err(e);
     }
-    match hear_session(slot, resource, at, c, available) {
-        Ok(()) => Ok(()),
-        Err(e) => {
-            slot.cut_data(c, held);
-            Err(e)
-        }
-    }
-}
-
-fn is_idle(state: State) -> bool
-    ensures { result ≡ idle state }
-{
-    match state {
-        State::Idle => true,
-        _ => false,
-    }
+    Ok(())
 }
 
 // The fragments are a transport unit: it is taken by the connection's state and the unit's object.
-fn take_unit<R: Resource>(
-    slot: &mut Record,
-    resource: &mut R,
-    at: u8,
-    c: ConnectionId,
-) -> Result<(), Refusal>
-    ensures { Try R.Resource.meaning at (λ made k. whole R.Resource.meaning made k c.number) result slot.old resource.old slot.new resource.new }
+fn take_unit<R: Resource>(place: &mut Place<'_, R>, c: ConnectionId) -> Result<(), Refusal>
+    ensures { TryAt R.Resource.meaning (λ made k. whole R.Resource.meaning made k c.number) result place.old place.new }
 {
-    let response = read(slot.connection(c).fragments(), c)?;
+    let response = read(place.slot.connection(c).fragments(), c)?;
     let available = response.available;
-    match (slot.connection(c).state(), response.object) {
+    match (place.slot.connection(c).state(), response.object) {
         (State::Creating, Object::CreateReply) | (State::Active, Object::Nothing) => {
-            slot.hear(c, available);
+            place.slot.hear(c, available);
             Ok(())
         }
         (State::Active, Object::Delete) => {
-            leave(slot, resource, at, c, State::ReplyDue);
+            place.leave(c, State::ReplyDue);
             Ok(())
         }
         (State::Deleting, Object::DeleteReply) => {
-            leave(slot, resource, at, c, State::Idle);
+            place.leave(c, State::Idle);
             Ok(())
         }
-        (State::Active, Object::Request) if is_idle(slot.connection(c.other()).state()) => {
-            slot.hear(c, available);
-            slot.owe(c, Owed::NewConnection);
+        (State::Active, Object::Request)
+            if place.slot.connection(c.other()).state() == State::Idle => {
+            place.slot.hear(c, available);
+            place.slot.owe(c, Owed::NewConnection);
             Ok(())
         }
         (State::Active, Object::Request) => {
-            slot.hear(c, available);
-            slot.owe(c, Owed::NoConnection);
+            place.slot.hear(c, available);
+            place.slot.owe(c, Owed::NoConnection);
             Ok(())
         }
         (State::Active, Object::More(data)) => {
-            let (start, n) = (data.offset, data.bytes.len());
-            add_more(slot, resource, at, c, available, start, n)
+            let span = Span::from(data);
+            add_more(place, c, available, span)
         }
         (State::Active, Object::Last(data)) => {
-            let (start, n) = (data.offset, data.bytes.len());
-            add_last(slot, resource, at, c, available, start, n)
+            let span = Span::from(data);
+            add_last(place, c, available, span)
         }
         _ => Err(Refusal::Object),
     }
@@ -132,59 +137,46 @@ fn take_unit<R: Resource>(
 
 // One fragment more: whether the turn comes back for further ones.
 fn join<R: Resource>(
-    slot: &mut Record,
-    resource: &mut R,
-    at: u8,
+    place: &mut Place<'_, R>,
     c: ConnectionId,
     more: bool,
     bytes: &[u8],
 ) -> Result<bool, Refusal>
-    ensures { Serves R.Resource.meaning at (λ made k. joins R.Resource.meaning made k c.number more bytes.now) (turned result) slot.old resource.old slot.new resource.new }
+    ensures { ServesAt R.Resource.meaning (λ made k. joins R.Resource.meaning made k c.number more bytes.now) (turned result) place.old place.new }
 {
-    let held = slot.connection(c).fragments().len();
-    if !slot.join(c, bytes) {
+    let held = place.slot.connection(c).fragments().len();
+    if !place.slot.join(c, bytes) {
         return Err(Refusal::Fragments);
     }
     if more {
         return Ok(true);
     }
-    match take_unit(slot, resource, at, c) {
-        Ok(()) => Ok(false),
-        Err(e) => {
-            slot.cut(c, held);
-            Err(e)
-        }
+    // Not inspect_err: a proof does not know what its closure leaves of the record.
+    if let Err(e) = take_unit(place, c) {
+        place.slot.cut(c, held);
+        return Err(e);
     }
-}
-
-fn may_speak(state: State) -> bool
-    ensures { result ≡ hears state }
-{
-    match state {
-        State::Creating | State::Active | State::Deleting => true,
-        _ => false,
-    }
+    Ok(false)
 }
 
 // A module's LPDU: whether the turn comes back for further ones.
 pub fn feed<R: Resource>(
-    slot: &mut Record,
-    resource: &mut R,
-    at: u8,
+    place: &mut Place<'_, R>,
     c: ConnectionId,
     lpdu: &[u8],
 ) -> Result<bool, Refusal>
-    ensures { Did R.Resource.meaning at (feeds c.number lpdu.now) (turned result) slot.old resource.old slot.new resource.new }
+    ensures { DidAt R.Resource.meaning (feeds c.number lpdu.now) (turned result) place.old place.new }
 {
-    let Some(size) = slot.agreed() else {
-        return Err(Refusal::Presence);
-    };
-    if !slot.connection(c).is_out() {
+    let size = place.slot.agreed().ok_or(Refusal::Presence)?;
+    if !place.slot.connection(c).is_out() {
         return Err(Refusal::Turn);
     }
-    if !may_speak(slot.connection(c).state()) {
+    if !matches!(
+        place.slot.connection(c).state(),
+        State::Creating | State::Active | State::Deleting
+    ) {
         return Err(Refusal::State);
     }
     let fragment = LpduReader::new(lpdu).fragment(size.get(), c.get())?;
-    join(slot, resource, at, c, fragment.more, fragment.bytes.bytes)
+    join(place, c, fragment.more, fragment.bytes.bytes)
 }

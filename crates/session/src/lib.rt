@@ -3,10 +3,13 @@
 
 ghost use Rattle.std.specs.Prelude.{◌≡◌, []};
 ghost use Rattle.identifier.specs.Identifiers.{found};
+ghost use Rattle.spdu.specs.declared.Reply.TheVariants.{Opened};
 ghost use Rattle.resource.specs.Duties.{Kept};
+ghost use Rattle.protocol.specs.declared.Owed.TheVariants.{Say};
+ghost use Rattle.protocol.specs.Record.{owing};
 ghost use Rattle.protocol.specs.Calls.{open_by, open_asked, close_asked, session_unit, hear};
-ghost use Rattle.record.specs.Records.{slot_of};
-ghost use Rattle.slot.specs.Stand.{Step, Try};
+ghost use Rattle.record.specs.Records.{slot_of, alter};
+ghost use Rattle.slot.specs.Places.{StepAt, TryAt};
 ghost use Rattle.session.specs.Pass.{owes, passes};
 
 use apdu::{Apdu, ApduReader};
@@ -17,47 +20,50 @@ use record::number::ConnectionId;
 use record::slots::Record;
 use refusal::Refusal;
 use resource::{Readiness, Resource};
-use slot::close_row;
+use slot::{Place, session_on};
 use spdu::{Reply, Request, SpduReader};
 
-// The statuses of an open_session_response, and of a close_session_response.
-pub const NO_RESOURCE: u8 = 0xF0;
+// The statuses of an open_session_response that are told before the resource is asked; the others are those of `Readiness`.
+#[derive(Clone, Copy)]
+pub enum OpenStatus {
+    NoResource = 0xF0,
+    VersionLower = 0xF2,
+}
 
-pub const VERSION_LOWER: u8 = 0xF2;
+// The statuses of a close_session_response.
+#[derive(Clone, Copy)]
+pub enum CloseStatus {
+    Closed = 0x00,
+    NotOpen = 0xF0,
+}
 
-pub const CLOSED: u8 = 0x00;
-
-pub const NOT_OPEN: u8 = 0xF0;
+// No session is opened, and the module is told why.
+fn refuse_open(slot: &mut Record, c: ConnectionId, status: u8, identifier: u32)
+    ensures { slot_of slot.new ≡ alter c.number (owing (Say (Opened status identifier 0))) (slot_of slot.old) }
+{
+    slot.owe(c, Owed::Say(Reply::Opened(status, identifier, 0)));
+}
 
 // A session with a listed identifier is asked for.
-fn open_listed<R: Resource>(
-    slot: &mut Record,
-    resource: &mut R,
-    at: u8,
-    c: ConnectionId,
-    listed: u32,
-)
-    ensures { Step R.Resource.meaning at (λ made k st. open_by R.Resource.meaning made k c.number listed (R.Resource.meaning.ready made k listed st.share) st) slot.old resource.old slot.new resource.new }
+fn open_listed<R: Resource>(place: &mut Place<'_, R>, c: ConnectionId, listed: u32)
+    ensures { StepAt R.Resource.meaning (λ made k st. open_by R.Resource.meaning made k c.number listed (R.Resource.meaning.ready made k listed st.share) st) place.old place.new }
 {
-    let status = resource.ready(at, listed);
+    let status = place.resource.ready(place.at, listed);
     if status != Readiness::Ready {
-        slot.owe(c, Owed::Say(Reply::Opened(status.into(), listed, 0)));
+        refuse_open(place.slot, c, status.into(), listed);
         return;
     }
-    match slot.first_free() {
-        None => slot.owe(
-            c,
-            Owed::Say(Reply::Opened(Readiness::Busy.into(), listed, 0)),
-        ),
+    match place.slot.first_free() {
+        None => refuse_open(place.slot, c, Readiness::Busy.into(), listed),
         Some(n) => {
             let row = Row {
                 connection: c.get(),
                 identifier: listed,
-                due: resource.greeting(listed).is_some(),
+                due: place.resource.greeting(listed).is_some(),
             };
-            resource.opened(at, listed, n.get());
-            slot.set_row(n, Some(row));
-            slot.owe(
+            place.resource.opened(place.at, listed, n.get());
+            place.slot.set_row(n, Some(row));
+            place.slot.owe(
                 c,
                 Owed::Say(Reply::Opened(status.into(), listed, n.get() as u16)),
             );
@@ -66,32 +72,37 @@ fn open_listed<R: Resource>(
 }
 
 // A session is asked for.
-fn open<R: Resource>(slot: &mut Record, resource: &mut R, at: u8, c: ConnectionId, asked: u32)
-    ensures { Step R.Resource.meaning at (λ made k. open_asked R.Resource.meaning made k c.number asked (found (R.Resource.meaning.listed made) asked)) slot.old resource.old slot.new resource.new }
+fn open<R: Resource>(place: &mut Place<'_, R>, c: ConnectionId, asked: u32)
+    ensures { StepAt R.Resource.meaning (λ made k. open_asked R.Resource.meaning made k c.number asked (found (R.Resource.meaning.listed made) asked)) place.old place.new }
 {
-    match resource.find(asked) {
-        None => slot.owe(c, Owed::Say(Reply::Opened(NO_RESOURCE, asked, 0))),
-        Some(listed) if is_older(listed, asked) => slot.owe(
+    match place.resource.find(asked) {
+        None => refuse_open(place.slot, c, OpenStatus::NoResource as u8, asked),
+        Some(listed) if is_older(listed, asked) => refuse_open(
+            place.slot,
             c,
-            Owed::Say(Reply::Opened(VERSION_LOWER, listed, 0)),
+            OpenStatus::VersionLower as u8,
+            listed,
         ),
-        Some(listed) => open_listed(slot, resource, at, c, listed),
+        Some(listed) => open_listed(place, c, listed),
     }
 }
 
 // A session is given back.
-fn close<R: Resource>(slot: &mut Record, resource: &mut R, at: u8, c: ConnectionId, number: u16)
-    ensures { Step R.Resource.meaning at (λ made k. close_asked R.Resource.meaning made k c.number number) slot.old resource.old slot.new resource.new }
+fn close<R: Resource>(place: &mut Place<'_, R>, c: ConnectionId, number: u16)
+    ensures { StepAt R.Resource.meaning (λ made k. close_asked R.Resource.meaning made k c.number number) place.old place.new }
 {
-    let status = match slot.session(number) {
-        Some(session) if session.row.connection == c.get() => CLOSED,
-        _ => NOT_OPEN,
+    let status = if session_on(place.slot, c, number).is_some() {
+        CloseStatus::Closed
+    } else {
+        CloseStatus::NotOpen
     };
-    close_row(slot, resource, at, c, number);
-    slot.owe(c, Owed::Say(Reply::Closed(status, number)));
+    place.close_row(c, number);
+    place
+        .slot
+        .owe(c, Owed::Say(Reply::Closed(status as u8, number)));
 }
 
-// An object comes for a session: what is owed for it.
+// An object comes for a session: what is owed for it. Its bytes lie in the record, so that it is lent apart from the resource.
 fn pass<R: Resource>(
     slot: &Record,
     resource: &mut R,
@@ -103,10 +114,7 @@ fn pass<R: Resource>(
     ensures after { passes R.Resource.meaning (R.Resource.meaning.made resource.old) at c.number number bytes.now ((slot_of slot.now).rows number) (R.Resource.meaning.share resource.old at) ≡ (owes result, R.Resource.meaning.share resource.new at) }
     ensures kept { Kept R.Resource.meaning at resource.old resource.new }
 {
-    let session = match slot.session(number) {
-        Some(session) if session.row.connection == c.get() => session,
-        _ => return Err(Refusal::NotOpen),
-    };
+    let session = session_on(slot, c, number).ok_or(Refusal::NotOpen)?;
     let read = ApduReader::new(bytes).object()?;
     let apdu = Apdu {
         tag: read.tag,
@@ -118,32 +126,30 @@ fn pass<R: Resource>(
 
 // All data of the connection, if any, are a session unit.
 pub fn hear_session<R: Resource>(
-    slot: &mut Record,
-    resource: &mut R,
-    at: u8,
+    place: &mut Place<'_, R>,
     c: ConnectionId,
     available: bool,
 ) -> Result<(), Refusal>
-    ensures { Try R.Resource.meaning at (λ made k st. session_unit R.Resource.meaning made k c.number (st.slot.conn c.number).chained (hear c.number available [] st)) result slot.old resource.old slot.new resource.new }
+    ensures { TryAt R.Resource.meaning (λ made k st. session_unit R.Resource.meaning made k c.number (st.slot.conn c.number).chained (hear c.number available [] st)) result place.old place.new }
 {
-    if slot.connection(c).chained().is_empty() {
-        slot.hear_all(c, available);
+    if place.slot.connection(c).chained().is_empty() {
+        place.slot.hear_all(c, available);
         return Ok(());
     }
-    match SpduReader::new(slot.connection(c).chained()).request()? {
+    match SpduReader::new(place.slot.connection(c).chained()).request()? {
         Request::Open(identifier) => {
-            slot.hear_all(c, available);
-            open(slot, resource, at, c, identifier);
+            place.slot.hear_all(c, available);
+            open(place, c, identifier);
         }
         Request::Close(number) => {
-            slot.hear_all(c, available);
-            close(slot, resource, at, c, number);
+            place.slot.hear_all(c, available);
+            close(place, c, number);
         }
         Request::Data(number, body) => {
-            let owed = pass(slot, resource, at, c, number, body.bytes)?;
-            slot.hear_all(c, available);
+            let owed = pass(place.slot, place.resource, place.at, c, number, body.bytes)?;
+            place.slot.hear_all(c, available);
             if let Some(owed) = owed {
-                slot.owe(c, owed);
+                place.slot.owe(c, owed);
             }
         }
     }
