@@ -5,7 +5,7 @@ use account::hex;
 use apdu::{
     APPLICATION_INFO, Apdu, DATE_TIME_ENQUIRY, PROFILE_CHANGED, PROFILE_ENQUIRY, PROFILE_REPLY,
 };
-use resource::{Reaction, Resource};
+use resource::{Refused, Resource};
 use standard::standard;
 use std::io;
 
@@ -30,7 +30,7 @@ fn open<R: Resource>(
     identifier: u32,
     number: u8,
 ) -> io::Result<()> {
-    let [high, low] = hex(resource.ready(0, identifier));
+    let [high, low] = hex(resource.ready(0, identifier).into());
     print!(rt; "session {number}: ready {high}{low}, greeting")?;
     resource.opened(0, identifier, number);
     match resource.greeting(identifier) {
@@ -49,9 +49,9 @@ fn say<R: Resource>(
 ) -> io::Result<()> {
     print!(rt; "session {number}: {} bytes come, reply", apdu.body.len())?;
     match resource.object(0, identifier, number, apdu) {
-        Reaction::Reply(piece) => bytes(rt, piece.bytes()),
-        Reaction::Silent => println!(rt; " none"),
-        Reaction::Refused(byte) => println!(rt; " refused {byte}"),
+        Ok(Some(piece)) => bytes(rt, piece.bytes()),
+        Ok(None) => println!(rt; " none"),
+        Err(Refused(byte)) => println!(rt; " refused {byte}"),
     }
 }
 
@@ -110,7 +110,7 @@ fn converse<R: Resource>(rt: &HostRuntime, resource: &mut R) -> io::Result<()> {
             body: &[0],
         },
     )?;
-    let [high, low] = hex(resource.ready(0, DATE_TIME));
+    let [high, low] = hex(resource.ready(0, DATE_TIME).into());
     println!(rt;
         "{} sessions are held, and one more is answered {high}{low}",
         resource.count(0)

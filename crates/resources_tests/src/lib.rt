@@ -8,7 +8,7 @@ mod tests {
     use information::Information;
     use manager::Manager;
     use piece::Piece;
-    use resource::{Reaction, Resource};
+    use resource::{Readiness, Refused, Resource};
     use standard::standard;
 
     const MANAGER: u32 = 0x00010041;
@@ -17,33 +17,18 @@ mod tests {
 
     const DATE_TIME: u32 = 0x00240041;
 
-    fn same(got: Reaction<Piece>, expected: Reaction<&[u8]>) -> bool {
-        match got {
-            Reaction::Silent => matches!(expected, Reaction::Silent),
-            Reaction::Refused(e) => matches!(expected, Reaction::Refused(x) if x == e),
-            Reaction::Reply(piece) => is_reply(piece, expected),
-        }
-    }
+    // What is answered to an object, with the bytes of a reply.
+    type Answer<'a> = Result<Option<&'a [u8]>, Refused>;
 
-    fn is_reply(piece: Piece, expected: Reaction<&[u8]>) -> bool {
-        match expected {
-            Reaction::Reply(bytes) => piece.bytes() == bytes,
-            _ => false,
-        }
-    }
-
-    fn keeps(kept: Option<&[u8]>, bytes: &[u8]) -> bool {
-        match kept {
-            Some(held) => held == bytes,
-            None => false,
-        }
+    fn said(answer: &Result<Option<Piece>, Refused>) -> Answer<'_> {
+        answer
+            .as_ref()
+            .map(|reply| reply.as_ref().map(|piece| piece.bytes()))
+            .map_err(|refused| *refused)
     }
 
     fn greets(got: Option<Piece>, bytes: &[u8]) -> bool {
-        match got {
-            Some(piece) => piece.bytes() == bytes,
-            None => false,
-        }
+        got.is_some_and(|piece| piece.bytes() == bytes)
     }
 
     #[test]
@@ -57,27 +42,32 @@ mod tests {
         assert_eq!(rt; r.find(MANAGER), None);
         assert!(rt; r.greeting(DATE_TIME).is_none());
         r.opened(0, DATE_TIME, 1);
-        assert!(rt; same(r.object(0, DATE_TIME, 1, asks), Reaction::Silent));
+        assert_eq!(rt; said(&r.object(0, DATE_TIME, 1, asks)), Ok(None));
         r.clock([0xC0, 0x79, 0x12, 0x45, 0x00]);
-        let table: [(u32, &[u8], Reaction<&[u8]>); 4] = [
+        let table: [(u32, &[u8], Answer<'_>); 4] = [
             (
                 0x9F8440,
                 &[0],
-                Reaction::Reply(&[0x9F, 0x84, 0x41, 5, 0xC0, 0x79, 0x12, 0x45, 0x00]),
+                Ok(Some(&[0x9F, 0x84, 0x41, 5, 0xC0, 0x79, 0x12, 0x45, 0x00])),
             ),
-            (0x9F8440, &[], Reaction::Refused(1)),
-            (0x9F8440, &[0, 0], Reaction::Refused(1)),
-            (0x9F8441, &[0], Reaction::Silent),
+            (0x9F8440, &[], Err(Refused(1))),
+            (0x9F8440, &[0, 0], Err(Refused(1))),
+            (0x9F8441, &[0], Ok(None)),
         ];
         for (tag, body, expected) in table {
-            assert!(rt; same(r.object(0, DATE_TIME, 1, Apdu { tag, body }), expected));
+            assert_eq!(rt;
+                said(&r.object(0, DATE_TIME, 1, Apdu { tag, body })),
+                expected
+            );
         }
-        assert!(rt;
-            same(r.object(0, DATE_TIME, 2, asks), Reaction::Silent),
+        assert_eq!(rt;
+            said(&r.object(0, DATE_TIME, 2, asks)),
+            Ok(None),
             "not held"
         );
-        assert!(rt;
-            same(r.object(1, DATE_TIME, 1, asks), Reaction::Silent),
+        assert_eq!(rt;
+            said(&r.object(1, DATE_TIME, 1, asks)),
+            Ok(None),
             "another slot"
         );
     }
@@ -88,30 +78,33 @@ mod tests {
         assert!(rt; greets(r.greeting(MANAGER), &[0x9F, 0x80, 0x10, 0]));
         r.opened(2, MANAGER, 1);
         r.opened(2, MANAGER, 16);
-        let table: [(u8, u32, &[u8], Reaction<&[u8]>); 10] = [
+        let table: [(u8, u32, &[u8], Answer<'_>); 10] = [
             (
                 1,
                 0x9F8010,
                 &[],
-                Reaction::Reply(&[0x9F, 0x80, 0x11, 8, 0, 1, 0, 0x41, 0, 0x24, 0, 0x41]),
+                Ok(Some(&[0x9F, 0x80, 0x11, 8, 0, 1, 0, 0x41, 0, 0x24, 0, 0x41])),
             ),
-            (1, 0x9F8010, &[0], Reaction::Refused(1)),
-            (1, 0x9F8011, &[0, 1, 0], Reaction::Refused(1)),
+            (1, 0x9F8010, &[0], Err(Refused(1))),
+            (1, 0x9F8011, &[0, 1, 0], Err(Refused(1))),
             (
                 1,
                 0x9F8011,
                 &[0, 1, 0, 0x41],
-                Reaction::Reply(&[0x9F, 0x80, 0x12, 0]),
+                Ok(Some(&[0x9F, 0x80, 0x12, 0])),
             ),
-            (1, 0x9F8011, &[], Reaction::Silent),
-            (16, 0x9F8011, &[], Reaction::Reply(&[0x9F, 0x80, 0x12, 0])),
-            (16, 0x9F8011, &[], Reaction::Silent),
-            (16, 0x9F8012, &[], Reaction::Reply(&[0x9F, 0x80, 0x10, 0])),
-            (16, 0x9F8012, &[0], Reaction::Refused(1)),
-            (16, 0x9F8020, &[], Reaction::Silent),
+            (1, 0x9F8011, &[], Ok(None)),
+            (16, 0x9F8011, &[], Ok(Some(&[0x9F, 0x80, 0x12, 0]))),
+            (16, 0x9F8011, &[], Ok(None)),
+            (16, 0x9F8012, &[], Ok(Some(&[0x9F, 0x80, 0x10, 0]))),
+            (16, 0x9F8012, &[0], Err(Refused(1))),
+            (16, 0x9F8020, &[], Ok(None)),
         ];
         for (number, tag, body, expected) in table {
-            assert!(rt; same(r.object(2, MANAGER, number, Apdu { tag, body }), expected));
+            assert_eq!(rt;
+                said(&r.object(2, MANAGER, number, Apdu { tag, body })),
+                expected
+            );
         }
         r.closed(2, MANAGER, 1);
         r.opened(2, MANAGER, 1);
@@ -124,7 +117,7 @@ mod tests {
                 body: &[],
             },
         );
-        assert!(rt; same(first, Reaction::Reply(&[0x9F, 0x80, 0x12, 0])));
+        assert_eq!(rt; said(&first), Ok(Some([0x9F, 0x80, 0x12, 0].as_slice())));
     }
 
     #[test]
@@ -132,28 +125,31 @@ mod tests {
         let mut r = Information::resource();
         assert!(rt; greets(r.greeting(INFORMATION), &[0x9F, 0x80, 0x20, 0]));
         r.opened(1, INFORMATION, 3);
-        let table: [(u32, &[u8], Reaction<&[u8]>); 4] = [
-            (0x9F8021, &[1, 2, 3, 4, 5, 2, 0x48, 0x69], Reaction::Silent),
-            (0x9F8021, &[1, 2, 3, 4, 5, 2, 0x48], Reaction::Refused(1)),
-            (0x9F8021, &[1, 2, 3, 4, 5], Reaction::Refused(1)),
-            (0x9F8020, &[], Reaction::Silent),
+        let table: [(u32, &[u8], Answer<'_>); 4] = [
+            (0x9F8021, &[1, 2, 3, 4, 5, 2, 0x48, 0x69], Ok(None)),
+            (0x9F8021, &[1, 2, 3, 4, 5, 2, 0x48], Err(Refused(1))),
+            (0x9F8021, &[1, 2, 3, 4, 5], Err(Refused(1))),
+            (0x9F8020, &[], Ok(None)),
         ];
         for (tag, body, expected) in table {
-            assert!(rt; same(r.object(1, INFORMATION, 3, Apdu { tag, body }), expected));
+            assert_eq!(rt;
+                said(&r.object(1, INFORMATION, 3, Apdu { tag, body })),
+                expected
+            );
         }
         r.closed(1, INFORMATION, 3);
-        assert!(rt; keeps(r.kind().kept(1), &[1, 2, 3, 4, 5, 2, 0x48, 0x69]));
+        assert_eq!(rt;
+            r.kind().kept(1),
+            Some([1, 2, 3, 4, 5, 2, 0x48, 0x69].as_slice())
+        );
         assert!(rt; r.kind().kept(0).is_none());
         assert!(rt; r.kind().kept(4).is_none());
         r.gone(1);
         assert!(rt; r.kind().kept(1).is_none());
     }
 
-    fn reply_length(got: Reaction<Piece>) -> usize {
-        match got {
-            Reaction::Reply(piece) => piece.bytes().len(),
-            _ => 0,
-        }
+    fn reply_length(got: Result<Option<Piece>, Refused>) -> usize {
+        got.ok().flatten().map_or(0, |piece| piece.bytes().len())
     }
 
     #[test]
@@ -174,17 +170,30 @@ mod tests {
             tag: 0x9F8021,
             body: &[0xFF; 261],
         };
-        assert!(rt; same(r.object(0, INFORMATION, 1, longest), Reaction::Silent));
-        assert!(rt; keeps(r.kind().kept(0), &[0xFF; 261]));
+        let answer = r.object(0, INFORMATION, 1, longest);
+        assert_eq!(rt; said(&answer), Ok(None));
+        assert!(rt;
+            r.kind()
+                .kept(0)
+                .is_some_and(|body| body == [0xFF; 261].as_slice())
+        );
     }
 
     #[test]
     fn all_under_a_quota(rt: HostRuntime) {
         let mut r = standard(2, &[MANAGER, INFORMATION, DATE_TIME]);
         assert_eq!(rt; r.find(0x00020050), Some(INFORMATION));
-        assert_eq!(rt; r.ready(0, DATE_TIME), 0);
-        assert_eq!(rt; r.ready(0, 0x00240042), 0xF1, "not listed");
-        assert_eq!(rt; r.ready(4, DATE_TIME), 0xF1, "no such slot");
+        assert_eq!(rt; r.ready(0, DATE_TIME), Readiness::Ready);
+        assert_eq!(rt;
+            r.ready(0, 0x00240042),
+            Readiness::Unavailable,
+            "not listed"
+        );
+        assert_eq!(rt;
+            r.ready(4, DATE_TIME),
+            Readiness::Unavailable,
+            "no such slot"
+        );
         r.opened(0, MANAGER, 0);
         r.opened(0, MANAGER, 17);
         r.opened(4, MANAGER, 1);
@@ -194,12 +203,16 @@ mod tests {
         assert_eq!(rt; r.count(0), 1);
         r.opened(0, DATE_TIME, 2);
         assert_eq!(rt; r.count(0), 2);
-        assert_eq!(rt; r.ready(0, INFORMATION), 0xF3, "as many as the quota");
-        assert_eq!(rt; r.ready(1, INFORMATION), 0);
+        assert_eq!(rt;
+            r.ready(0, INFORMATION),
+            Readiness::Busy,
+            "as many as the quota"
+        );
+        assert_eq!(rt; r.ready(1, INFORMATION), Readiness::Ready);
         r.closed(0, MANAGER, 2);
         assert_eq!(rt; r.count(0), 2);
         r.gone(0);
         assert_eq!(rt; r.count(0), 0);
-        assert_eq!(rt; r.ready(0, INFORMATION), 0);
+        assert_eq!(rt; r.ready(0, INFORMATION), Readiness::Ready);
     }
 }
