@@ -32,6 +32,12 @@ pub struct Place<'a, R> {
 }
 
 impl<'a, R: Resource> Place<'a, R> {
+    pub fn new(slot: &'a mut Record, resource: &'a mut R, at: u8) -> Place<'a, R>
+        ensures { result ≡ record { slot = slot.entry; resource = resource.entry; at = at } }
+    {
+        Place { slot, resource, at }
+    }
+
     // A session ends, if it is on the connection, and the resource is told.
     pub fn close_row(&mut self, c: ConnectionId, number: u16)
         ensures { StepAt R.Resource.meaning (λ made k st. close_row R.Resource.meaning made k c.number (st.slot.rows number) number st) self.old self.new }

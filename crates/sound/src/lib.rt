@@ -15,6 +15,7 @@ use record::slots::Record;
 use refusal::Refusal;
 use resource::Resource;
 use sending::Sent;
+use slot::Place;
 
 // No slot can exist with a session on a connection that is not Active, one number in two rows, or an owed command where the turn is out.
 #[derive(Clone, Copy)]
@@ -47,13 +48,13 @@ impl Slot {
     ) -> Result<(), Refusal>
         ensures { Did R.Resource.meaning at.number (plugs size) (plainly result) self.old.kept resource.old self.new.kept resource.new }
     {
-        slot::plug(&mut self.kept, resource, at.get(), size)
+        Place::new(&mut self.kept, resource, at.get()).plug(size)
     }
 
     pub fn pull<R: Resource>(&mut self, resource: &mut R, at: SlotNumber) -> Result<(), Refusal>
         ensures { Did R.Resource.meaning at.number pulls (plainly result) self.old.kept resource.old self.new.kept resource.new }
     {
-        slot::pull(&mut self.kept, resource, at.get())
+        Place::new(&mut self.kept, resource, at.get()).pull()
     }
 
     pub fn end<R: Resource>(
@@ -64,7 +65,7 @@ impl Slot {
     ) -> Result<(), Refusal>
         ensures { Did R.Resource.meaning at.number (ends connection) (plainly result) self.old.kept resource.old self.new.kept resource.new }
     {
-        slot::end(&mut self.kept, resource, at.get(), connection)
+        Place::new(&mut self.kept, resource, at.get()).end(connection)
     }
 
     pub fn next<R: Resource>(
@@ -91,12 +92,13 @@ impl Slot {
     ) -> Result<bool, Refusal>
         ensures { Did R.Resource.meaning at.number (feeds c.number lpdu.now) (turned result) self.old.kept resource.old self.new.kept resource.new }
     {
-        feeding::feed(&mut self.kept, resource, at.get(), c, lpdu)
+        let mut place = Place::new(&mut self.kept, resource, at.get());
+        feeding::feed(&mut place, c, lpdu)
     }
 
     pub fn expire<R: Resource>(&mut self, resource: &mut R, at: SlotNumber, c: ConnectionId)
         ensures { Did R.Resource.meaning at.number (expires c.number) (Ok done) self.old.kept resource.old self.new.kept resource.new }
     {
-        slot::expire(&mut self.kept, resource, at.get(), c);
+        Place::new(&mut self.kept, resource, at.get()).expire(c);
     }
 }

@@ -9,4 +9,4 @@ invariant_of-self g c =
     let M = g.R.Resource.meaning in
     let r = c.args.resource.now in
     let at = c.get.result in
-    record { sound = stays M g.R.Resource.laws (M.made r) at (end c.args.connection) (stand_at M at c.args.self.now.kept r) (stand_at M at c.end.new.slot c.end.new.resource) (omega arith) c.end.ensures.after c.args.self.now.sound }
+    record { sound = stays M g.R.Resource.laws (M.made r) at (end c.args.connection) (stand_at M at c.args.self.now.kept r) (stand_at M at c.end.new.self.slot.now c.end.new.self.resource.now) (omega arith) (rw c.new.ensures at c.end.ensures.serves.after) c.args.self.now.sound }

@@ -9,4 +9,4 @@ invariant_of-self g c =
     let M = g.R.Resource.meaning in
     let r = c.args.resource.now in
     let at = c.get.result in
-    record { sound = stays M g.R.Resource.laws (M.made r) at (plug c.args.size) (stand_at M at c.args.self.now.kept r) (stand_at M at c.plug.new.slot c.plug.new.resource) (omega arith) c.plug.ensures.after c.args.self.now.sound }
+    record { sound = stays M g.R.Resource.laws (M.made r) at (plug c.args.size) (stand_at M at c.args.self.now.kept r) (stand_at M at c.plug.new.self.slot.now c.plug.new.self.resource.now) (omega arith) (rw c.new.ensures at c.plug.ensures.serves.after) c.args.self.now.sound }

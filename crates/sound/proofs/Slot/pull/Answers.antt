@@ -9,4 +9,4 @@ invariant_of-self g c =
     let M = g.R.Resource.meaning in
     let r = c.args.resource.now in
     let at = c.get.result in
-    record { sound = stays M g.R.Resource.laws (M.made r) at (pull) (stand_at M at c.args.self.now.kept r) (stand_at M at c.pull.new.slot c.pull.new.resource) (omega arith) c.pull.ensures.after c.args.self.now.sound }
+    record { sound = stays M g.R.Resource.laws (M.made r) at (pull) (stand_at M at c.args.self.now.kept r) (stand_at M at c.pull.new.self.slot.now c.pull.new.self.resource.now) (omega arith) (rw c.new.ensures at c.pull.ensures.serves.after) c.args.self.now.sound }
