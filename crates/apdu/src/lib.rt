@@ -45,7 +45,7 @@ pub struct Apdu<B> {
     pub body: B,
 }
 
-// Reads one APDU.
+// Reads one APDU: a type of its own, so that no layer's bytes are read by another's rules.
 #[derive(Clone, Copy)]
 pub struct ApduReader<'a> {
     cursor: Cursor<'a>,
@@ -67,7 +67,7 @@ impl<'a> ApduReader<'a> {
         match left {
             [APDU, b, c, rest @ ..] if *b >= 0x80 && *c < 0x80 => {
                 self.cursor.left = rest;
-                Ok(0x9F0000 + *b as u32 * 256 + *c as u32)
+                Ok(u32::from_be_bytes([0, APDU, *b, *c]))
             }
             [] | [APDU] => Err(ObjectFault(Fault::Length)),
             [APDU, b] if *b >= 0x80 => Err(ObjectFault(Fault::Length)),

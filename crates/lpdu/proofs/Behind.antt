@@ -1,20 +1,17 @@
 -- Bytes written into a slice behind those that stand there.
-use Rattle.std.proofs.Common.{◌≡◌, ℕ, ◌+◌, ◌-◌, ◌≤◌, List, [], ◌++◌, length, take, drop, Ok, Result, sym, ap, ◌∙◌, arith}
-use borrow.Rule.Slice.PartMut.{put_mid}
-use Rattle.std.proofs.lemmas.List.{append-nil, append_assoc, length-append, length-take-le, length-drop, take_rest, take_at, drop_at, drop_all, drop-drop, take-append-drop}
+use Rattle.std.proofs.Common.{◌≡◌, ℕ, ◌+◌, ◌≤◌, List, [], ◌++◌, length, take, drop, Ok, Result, sym, ap, ◌∙◌, arith}
+use Rattle.std.proofs.lemmas.List.{append-nil, append_assoc, length-append, length-take-le, length-drop, take_at, drop_at, drop-drop, take-append-drop}
 use Rattle.std.proofs.lemmas.Bool.{le-leb}
 use Rattle.writer.specs.declared.WriteFault.{WriteFault}
 use Rattle.writer.specs.Writing.{laid}
 use Rattle.lpdu.specs.Fragments.{behind}
 
--- a part of the slice that got them
-pub put_behind : (xs out part : List ℕ) (at : ℕ) (r : Result ℕ WriteFault) → at + length xs ≤ length out → laid xs (take (length out - at) (drop at out)) ≡ (r, part) → put_mid at (length out - at) out part ≡ behind at xs out
+-- the part of the slice behind a place got them
+pub put_behind : (xs out part : List ℕ) (at : ℕ) (r : Result ℕ WriteFault) → at + length xs ≤ length out → laid xs (drop at out) ≡ (r, part) → take at out ++ part ≡ behind at xs out
 put_behind xs out part at r fits e =
-    let rest : take (length out - at) (drop at out) ≡ drop at out = take_rest out at in
     let room : length xs ≤ length (drop at out) = omega (arith, length-drop at out) in
-    let is : xs ++ drop (length xs) (drop at out) ≡ part = rw (rest, le-leb (length xs) (length (drop at out)) room) at (ap (λ z. z.1) e) in
-    let none : drop (length out - at) (drop at out) ≡ [] = drop_all (length out - at) (drop at out) (omega (arith, length-drop at out)) in
-    rw (none, append-nil part, ← is, drop-drop (length xs) at out)
+    let is : xs ++ drop (length xs) (drop at out) ≡ part = rw (le-leb (length xs) (length (drop at out)) room) at (ap (λ z. z.1) e) in
+    rw (← is, drop-drop (length xs) at out)
 
 pub take_behind : (xs out : List ℕ) (at n : ℕ) → at ≤ length out → n ≡ at + length xs → take n (behind at xs out) ≡ take at out ++ xs
 take_behind xs out at n le e =

@@ -2,7 +2,7 @@
 #![tactic(auto)]
 
 ghost use Rattle.std.specs.Prelude.{◌≡◌};
-ghost use Rattle.writer.specs.Writing.{laid, two as two_of};
+ghost use Rattle.writer.specs.Writing.{laid};
 ghost use Rattle.spdu.specs.Replies.{write_reply as reply_written};
 ghost use Rattle.cursor.specs.Reading.{start};
 ghost use Rattle.spdu.specs.Session.{numbered as numbered_of, request as request_of, opened as opened_of, closed as closed_of, reply as reply_of};
@@ -11,7 +11,7 @@ ghost use Rattle.spdu.specs.Views.{session, session_request, session_reply, map_
 
 use cursor::fault::{Fault, SessionFault};
 use cursor::{Cursor, Part, Size};
-use writer::{WriteFault, put, put_two};
+use writer::{WriteFault, put};
 
 // Tags.
 pub const SESSION_NUMBER: u8 = 0x90;
@@ -41,7 +41,7 @@ pub enum Reply<B> {
     Data(u16, B),
 }
 
-// Reads one SPDU.
+// Reads one SPDU: a type of its own, so that no layer's bytes are read by another's rules.
 #[derive(Clone, Copy)]
 pub struct SpduReader<'a> {
     cursor: Cursor<'a>,
@@ -60,81 +60,50 @@ impl<'a> SpduReader<'a> {
     fn numbered(&mut self) -> Result<u16, SessionFault>
         ensures { numbered_of (place self.old.cursor) ≡ (session result, place self.new.cursor) }
     {
-        let mut body = self.cursor.field(Size::Exactly(2))?;
-        Ok(body.number()?)
+        Ok(self.cursor.field(Size::Exactly(2))?.number()?)
     }
 
     // A module's SPDU.
     pub fn request(mut self) -> Result<Request<Part<'a>>, SessionFault>
         ensures { session_request result ≡ (request_of (place self.entry.cursor)).0 }
     {
-        match self.cursor.byte()? {
-            OPEN_SESSION_REQUEST => {
-                let mut body = self.cursor.field(Size::Exactly(4))?;
-                let identifier = body.word()?;
-                self.cursor.finish()?;
-                Ok(Request::Open(identifier))
-            }
-            CLOSE_SESSION_REQUEST => {
-                let number = self.numbered()?;
-                self.cursor.finish()?;
-                Ok(Request::Close(number))
-            }
-            SESSION_NUMBER => {
-                let number = self.numbered()?;
-                Ok(Request::Data(number, self.cursor.rest()))
-            }
-            _ => Err(SessionFault(Fault::Tag)),
-        }
+        let request = match self.cursor.byte()? {
+            OPEN_SESSION_REQUEST => Request::Open(self.cursor.field(Size::Exactly(4))?.word()?),
+            CLOSE_SESSION_REQUEST => Request::Close(self.numbered()?),
+            SESSION_NUMBER => return Ok(Request::Data(self.numbered()?, self.cursor.rest())),
+            _ => return Err(SessionFault(Fault::Tag)),
+        };
+        self.cursor.finish()?;
+        Ok(request)
     }
 
     fn opened(&mut self) -> Result<Reply<Part<'a>>, SessionFault>
         ensures { opened_of (place self.old.cursor) ≡ (session_reply result, place self.new.cursor) }
     {
         let mut body = self.cursor.field(Size::Exactly(7))?;
-        let status = body.byte()?;
-        let identifier = body.word()?;
-        let number = body.number()?;
-        Ok(Reply::Opened(status, identifier, number))
+        Ok(Reply::Opened(body.byte()?, body.word()?, body.number()?))
     }
 
     fn closed(&mut self) -> Result<Reply<Part<'a>>, SessionFault>
         ensures { closed_of (place self.old.cursor) ≡ (session_reply result, place self.new.cursor) }
     {
         let mut body = self.cursor.field(Size::Exactly(3))?;
-        let status = body.byte()?;
-        let number = body.number()?;
-        Ok(Reply::Closed(status, number))
+        Ok(Reply::Closed(body.byte()?, body.number()?))
     }
 
     // An SPDU that a host wrote.
     pub fn reply(mut self) -> Result<Reply<Part<'a>>, SessionFault>
         ensures { session_reply result ≡ (reply_of (place self.entry.cursor)).0 }
     {
-        match self.cursor.byte()? {
-            OPEN_SESSION_RESPONSE => {
-                let reply = self.opened()?;
-                self.cursor.finish()?;
-                Ok(reply)
-            }
-            CLOSE_SESSION_RESPONSE => {
-                let reply = self.closed()?;
-                self.cursor.finish()?;
-                Ok(reply)
-            }
-            SESSION_NUMBER => {
-                let number = self.numbered()?;
-                Ok(Reply::Data(number, self.cursor.rest()))
-            }
-            _ => Err(SessionFault(Fault::Tag)),
-        }
+        let reply = match self.cursor.byte()? {
+            OPEN_SESSION_RESPONSE => self.opened()?,
+            CLOSE_SESSION_RESPONSE => self.closed()?,
+            SESSION_NUMBER => return Ok(Reply::Data(self.numbered()?, self.cursor.rest())),
+            _ => return Err(SessionFault(Fault::Tag)),
+        };
+        self.cursor.finish()?;
+        Ok(reply)
     }
-}
-
-fn two(n: u16) -> [u8; 2]
-    ensures { result ≡ two_of n }
-{
-    [(n / 256) as u8, (n % 256) as u8]
 }
 
 // Writes a host's SPDU.
@@ -143,21 +112,19 @@ pub fn write_reply(reply: Reply<&[u8]>, out: &mut [u8]) -> Result<usize, WriteFa
 {
     match reply {
         Reply::Opened(status, identifier, number) => {
-            let [a, b] = two((identifier / 65536) as u16);
-            let [c, d] = two((identifier % 65536) as u16);
-            let [high, low] = two(number);
+            let head = [OPEN_SESSION_RESPONSE, 7, status];
             put(
-                &[&[OPEN_SESSION_RESPONSE, 7, status, a, b, c, d, high, low]],
+                &[&head, &identifier.to_be_bytes(), &number.to_be_bytes()],
                 out,
             )
         }
         Reply::Closed(status, number) => {
-            let [high, low] = two(number);
-            put(&[&[CLOSE_SESSION_RESPONSE, 3, status, high, low]], out)
+            let head = [CLOSE_SESSION_RESPONSE, 3, status];
+            put(&[&head, &number.to_be_bytes()], out)
         }
         Reply::Data(number, bytes) => {
-            let [high, low] = two(number);
-            put_two(&[SESSION_NUMBER, 2, high, low], bytes, out)
+            let head = [SESSION_NUMBER, 2];
+            put(&[&head, &number.to_be_bytes(), bytes], out)
         }
     }
 }

@@ -49,6 +49,7 @@ pub enum Object<B> {
 }
 
 // A module's TPDU: at most one object, and whether the module has data to send (DA).
+// DA is a bit of the wire that says nothing of the object, so it stays a flag.
 #[derive(Clone, Copy)]
 pub struct Response<B> {
     pub object: Object<B>,
@@ -67,7 +68,7 @@ pub enum Command<B> {
     Error(u8),
 }
 
-// Reads one TPDU.
+// Reads one TPDU: a type of its own, so that no layer's bytes are read by another's rules.
 #[derive(Clone, Copy)]
 pub struct TpduReader<'a> {
     cursor: Cursor<'a>,
@@ -145,9 +146,7 @@ impl<'a> TpduReader<'a> {
             T_DATA_LAST => Ok(Object::Last(self.data(id)?)),
             T_DATA_MORE => Ok(Object::More(self.data(id)?)),
             tag => {
-                let Some(object) = bare_object(tag) else {
-                    return Err(TransportFault(Fault::Tag));
-                };
+                let object = bare_object(tag).ok_or(TransportFault(Fault::Tag))?;
                 self.bare(id)?;
                 Ok(object)
             }
@@ -190,9 +189,7 @@ impl<'a> TpduReader<'a> {
             NEW_T_C => Ok(Command::NewConnection(self.one(id)?)),
             T_C_ERROR => Ok(Command::Error(self.one(id)?)),
             tag => {
-                let Some(command) = bare_command(tag) else {
-                    return Err(TransportFault(Fault::Tag));
-                };
+                let command = bare_command(tag).ok_or(TransportFault(Fault::Tag))?;
                 self.bare(id)?;
                 Ok(command)
             }
@@ -203,8 +200,7 @@ impl<'a> TpduReader<'a> {
     fn one(&mut self, id: u8) -> Result<u8, TransportFault>
         ensures { one_of id (place self.old.cursor) ≡ (transport result, place self.new.cursor) }
     {
-        let mut body = self.own(id, Size::Exactly(2))?;
-        Ok(body.byte()?)
+        Ok(self.own(id, Size::Exactly(2))?.byte()?)
     }
 }
 
