@@ -1,9 +1,5 @@
--- Names of units, statuses, resources, objects and faults, and numbers in hexadecimal digits.
+-- Names of units, statuses, resources and objects, and numbers in hexadecimal digits.
 use Rattle.std.specs.Prelude.{ℕ, ◌+◌, ◌-◌, ◌/◌, ◌%◌, cond, List, [], ◌∷◌, Some, None, codes, Option, ◌==◌, nat_lt}
-use Rattle.cursor.specs.declared.fault.Fault.{Fault}
-use Rattle.cursor.specs.declared.fault.Fault.TheVariants.{Tag, Length, Content}
-use Rattle.cursor.specs.declared.fault.LinkFault.{LinkFault}
-use Rattle.cursor.specs.declared.fault.LinkFault.TheVariants.{Short, Long, Connection, Mark}
 
 -- the object of a transport unit, by its tag
 abbrev pub transport : ℕ → List ℕ
@@ -79,19 +75,6 @@ object tag =
     (cond (tag == 0x9F8440) (Some (codes "date-time enquiry"))
     (cond (tag == 0x9F8441) (Some (codes "date-time"))
     None)))))))))))
-
--- what is wrong with a unit above the link
-abbrev pub fault : Fault → List ℕ
-fault Tag = codes "tag"
-fault Length = codes "length"
-fault Content = codes "content"
-
--- what is wrong with a link unit
-abbrev pub link_fault : LinkFault → List ℕ
-link_fault Short = codes "short"
-link_fault Long = codes "long"
-link_fault Connection = codes "connection"
-link_fault Mark = codes "mark"
 
 -- the character of a number's last digit: 0 to 9, then A to F
 abbrev pub digit : ℕ → ℕ

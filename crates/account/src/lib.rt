@@ -1,11 +1,13 @@
-// Names of units, statuses, resources, objects and faults, and numbers in hexadecimal digits.
+// Names of units, statuses, resources and objects, and numbers in hexadecimal digits.
 #![tactic(auto)]
 
-ghost use Rattle.std.specs.Prelude.{◌≡◌};
+ghost use Rattle.std.specs.Prelude.{◌≡◌, Some};
 ghost use Rattle.std.specs.Option.{option_map};
-ghost use Rattle.account.specs.Names.{transport as transport_name, session as session_name, opening as opening_name, closing as closing_name, resource as resource_name, object as object_name, fault as fault_name, link_fault, digit as digit_of, byte_digits, word_digits};
+ghost use Rattle.account.specs.Names.{transport as transport_name, session as session_name, opening as opening_name, closing as closing_name, resource as resource_name, object as object_name, byte_digits, word_digits};
 
-use cursor::fault::{Fault, LinkFault};
+use std::fmt;
+
+// The tables below answer for every number that the wire may carry; as a `Display` of a type each, the same table would stand in a longer frame.
 
 // The object of a TPDU, by its tag.
 pub fn transport(tag: u8) -> &'static str
@@ -102,75 +104,46 @@ pub fn object(tag: u32) -> Option<&'static str>
     }
 }
 
-pub fn fault(fault: Fault) -> &'static str
-    ensures { result.now ≡ fault_name fault }
-{
-    match fault {
-        Fault::Tag => "tag",
-        Fault::Length => "length",
-        Fault::Content => "content",
+// A byte, which prints in two digits.
+#[derive(Clone, Copy)]
+pub struct HexByte(pub u8);
+
+impl fmt::Display for HexByte {
+    ghost output = { λ x. Some (byte_digits x.0) };
+
+    #[tactic(auto, using(crate::proofs::Hex::byte_row))]
+    fn fmt<W: fmt::Write>(&self, f: &mut fmt::Formatter<W>) -> fmt::Result {
+        let byte = self.0;
+        write!(f, "{byte:02X}")
     }
 }
 
-pub fn link(fault: LinkFault) -> &'static str
-    ensures { result.now ≡ link_fault fault }
-{
-    match fault {
-        LinkFault::Short => "short",
-        LinkFault::Long => "long",
-        LinkFault::Connection => "connection",
-        LinkFault::Mark => "mark",
+// A number, which prints in eight digits.
+#[derive(Clone, Copy)]
+pub struct HexWord(pub u32);
+
+impl fmt::Display for HexWord {
+    ghost output = { λ x. Some (word_digits x.0) };
+
+    #[tactic(auto, using(crate::proofs::Hex::word_row))]
+    fn fmt<W: fmt::Write>(&self, f: &mut fmt::Formatter<W>) -> fmt::Result {
+        let n = self.0;
+        write!(f, "{n:08X}")
     }
-}
-
-// The last digit of a number.
-fn digit(n: u32) -> char
-    ensures { result ≡ digit_of n }
-{
-    let low = (n % 16) as u8;
-    if low < 10 {
-        (b'0' + low) as char
-    } else {
-        (b'A' + (low - 10)) as char
-    }
-}
-
-// A byte in two digits.
-pub fn hex(byte: u8) -> [char; 2]
-    ensures { result ≡ byte_digits byte }
-{
-    let n = byte as u32;
-    [digit(n / 16), digit(n)]
-}
-
-// A number in eight digits.
-pub fn hex_word(n: u32) -> [char; 8]
-    ensures { result ≡ word_digits n }
-{
-    [
-        digit(n / 0x10000000),
-        digit(n / 0x1000000),
-        digit(n / 0x100000),
-        digit(n / 0x10000),
-        digit(n / 0x1000),
-        digit(n / 0x100),
-        digit(n / 0x10),
-        digit(n),
-    ]
 }
 
 #[cfg(test)]
 mod tests {
     use super::*;
+    use std::test::Fail;
 
     #[test]
-    fn resources(rt: HostRuntime) {
+    fn resources(rt: HostRuntime) -> Result<(), Fail> {
         assert_eq!(rt; resource(0x00010041), Some("Resource Manager"));
         assert_eq!(rt; resource(0x0024007F), Some("Date-Time"));
         assert_eq!(rt; resource(0x00400081), None);
-        assert_eq!(rt;
-            hex_word(0x0024007F),
-            ['0', '0', '2', '4', '0', '0', '7', 'F']
-        );
+        let printed = format!(in rt.alloc(); "{}", HexWord(0x0024007F))?;
+        assert_eq!(rt; printed.as_str(), "0024007F");
+        Ok(())
     }
 }
