@@ -6,4 +6,4 @@ pub returns-then-not-time_fits : goal.returns-then-not-time_fits
 returns-then-not-time_fits g c = clock_off g.R.Resource.meaning g.R.Resource.laws c.args.time c.args.self.now (search rules)
 
 pub returns : goal.returns
-returns g c = clock_told g.R.Resource.meaning g.R.Resource.laws c.args.time c.args.self.now c.clock.new.self (search rules) c.clock.ensures.made c.clock.ensures.shares
+returns g c = clock_told g.R.Resource.meaning g.R.Resource.laws c.args.time c.args.self.now _ (search rules) (search rules) (search rules)
