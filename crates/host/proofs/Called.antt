@@ -1,11 +1,14 @@
 -- A call to one slot is a call to the host.
-use Rattle.std.proofs.Common.{◌≡◌, ℕ, zero, suc, ◌<◌, Bool, true, false, cond, not, ◌&&◌, eqb, leb, List, [], map, length, get_or, set, replicate, Ok, Err, Result, sym, refl, ap, ◌∙◌, arith}
-use Rattle.std.proofs.lemmas.Bool.{cond_both, eqb-true, eqb-false, le-ltb, lt-ltb, le-leb, lt-leb}
+use Rattle.std.proofs.Common.{◌≡◌, ℕ, zero, suc, ◌<◌, Bool, true, false, cond, not, ◌&&◌, eqb, leb, ltb, List, [], ◌∷◌, map, length, get_or, set, Some, None, Ok, Err, Option, Result, sym, refl, ap, subst, ◌∙◌, arith}
+use Rattle.std.specs.Prelude.{if◌then◌else◌, ok_or, IfErr}
+use Rattle.std.proofs.lemmas.Bool.{cond_both, eqb-true, eqb-false, le-ltb, lt-ltb, le-leb, lt-leb, ltb-true}
 use Rattle.std.proofs.lemmas.List.{get_or-map, map-set, get_or-set_same, get_or-set_other, length-map}
 use Rattle.refusal.specs.declared.Refusal.{Refusal}
 use Rattle.refusal.specs.declared.Refusal.TheVariants as no
 use Rattle.resource.specs.Meaning.{Meaning}
 use Rattle.resource.specs.Lawful.{Lawful}
+use Rattle.resource.specs.Places.{no_some}
+use Rattle.piece.specs.Options.{map_option}
 use Rattle.protocol.specs.Results.{refuse}
 use Rattle.protocol.specs.Record as def
 use Rattle.protocol.specs.Calls.{Act, Answer, act, done}
@@ -42,6 +45,16 @@ module _ {S : Type 0} (M : Meaning S) (law : Lawful M) where
       off : (x y : Bool) → y ≡ false → (x && y) ≡ false
       off true y e = e
       off false y e = refl
+
+  -- where a number names no slot every call is refused
+  pub refused_off : {A : Type 0} (f : A → ℕ) (h : Host S) (i : ℕ) (o : Option A) (r : Result A Refusal) → map_option f o ≡ (if ltb 3 i then None else Some i) → r ≡ ok_or o no.Slot
+      → IfErr r (λ e. (a : Act) → Called M (at i a) (Err e) h h)
+  refused_off f h i (Some x) r e q = rw q tt
+  refused_off f h i None r e q = rw q (λ a. called_off h i a (above (ltb 3 i) refl e))
+    where
+      above : (b : Bool) → ltb 3 i ≡ b → None ≡ (if b then None else Some i) → 3 < i
+      above true t k = ltb-true 3 i t
+      above false t k = no_some i k
 
   -- a call on the slot with this number
   module _ (h : Host S) (i j : ℕ) (a : Act) (r : Result Answer Refusal) (x x' : Slot) (s' : S) where
@@ -85,6 +98,11 @@ module _ {S : Type 0} (M : Meaning S) (law : Lawful M) where
             cond_both (eqb s i) (stand_of (view M h i) (act M made i a (view M h i))) (view M h s) (λ z. view M h' s ≡ z) (λ t. ap (view M h') (eqb-true s i t) ∙ here) (λ t. away s (eqb-false s i t))
             ∙ sym (ap (λ t. cond t (stand_of (view M h i) (act M made i a (view M h i))) (view M h s)) (on (eqb s i) (leb i 3) (le-leb i 3 (omega arith))))
 
+  -- the same, by the number that the call names
+  pub called_named : (h : Host S) (k i j : ℕ) (a : Act) (r : Result Answer Refusal) (x x' : Slot) (s' : S) → i ≡ k → j ≡ i → i < 4 → j < length h.slots → Did M i a r (get_or h.slots j x).kept h.resource x'.kept s'
+      → Called M (at k a) r h (record { resource = s'; slots = set h.slots j x' })
+  called_named h k i j a r x x' s' named same small lt d = subst (λ n. Called M (at n a) r h (record { resource = s'; slots = set h.slots j x' })) named (called_at h i j a r x x' s' same small lt d)
+
   -- a call with another name for its answer
   pub called_as : (c : Call) (r r' : Result Answer Refusal) (h h' : Host S) → r ≡ r' → Called M c r h h' → Called M c r' h h'
   called_as c r r' h _ e k = record { answers = sym e ∙ k.answers; after = k.after; made = k.made; stands = k.stands }
@@ -104,19 +122,14 @@ module _ {S : Type 0} (M : Meaning S) (law : Lawful M) where
       refl
 
   -- a host at its start
-  four_fresh : (s : ℕ) → get_or (replicate 4 def.fresh) s def.fresh ≡ def.fresh
-  four_fresh zero = refl
-  four_fresh (suc zero) = refl
-  four_fresh (suc (suc zero)) = refl
-  four_fresh (suc (suc (suc zero))) = refl
-  four_fresh (suc (suc (suc (suc s)))) = refl
+  all_fresh : (xs : List Slot) → ((s : ℕ) (x : Slot) → s < length xs → seen (get_or xs s x) ≡ def.fresh) → (s : ℕ) → get_or (map seen xs) s def.fresh ≡ def.fresh
+  all_fresh [] k s = refl
+  all_fresh (y ∷ xs) k zero = k 0 y (omega arith)
+  all_fresh (y ∷ xs) k (suc s) = all_fresh xs (λ n x lt. k (suc n) x (omega arith)) s
 
-  pub begins : (r : S) (slots : List Slot) → map seen slots ≡ replicate 4 def.fresh → Begun M r (record { resource = r; slots = slots })
+  pub begins : (r : S) (slots : List Slot) → ((s : ℕ) (x : Slot) → s < length slots → seen (get_or slots s x) ≡ def.fresh) → Begun M r (record { resource = r; slots = slots })
   begins r slots e = record {
-    slots = all;
+    slots = all_fresh slots e;
     resource = refl;
-    stands = λ new. stands M (M.made r) law [] (view M (record { resource = r; slots = slots })) (λ s b. λ i. record { slot = all s i; share = new s b i });
+    stands = λ new. stands M (M.made r) law [] (view M (record { resource = r; slots = slots })) (λ s b. λ i. record { slot = all_fresh slots e s i; share = new s b i });
   }
-    where
-      all : (s : ℕ) → get_or (map seen slots) s def.fresh ≡ def.fresh
-      all s = ap (λ l. get_or l s def.fresh) e ∙ four_fresh s

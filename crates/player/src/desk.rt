@@ -138,8 +138,5 @@ impl<R: Resource> Desk<R> {
 fn done(r: Result<(), Refusal>) -> Result<Answer, Refusal>
     ensures { (out : List ℕ) → answered result out ≡ plainly r }
 {
-    match r {
-        Ok(()) => Ok(Answer::Done),
-        Err(e) => Err(e),
-    }
+    r.map(|()| Answer::Done)
 }

@@ -1,16 +1,27 @@
 // The turns that are out, one for each slot and connection at most.
-ghost use Rattle.std.specs.Prelude.{◌≡◌, ◌<◌, length, replicate, None};
-ghost use Rattle.player.specs.Hands.{place, taken, put as putting};
+ghost use Rattle.std.specs.Prelude.{◌≡◌, ◌<◌, ◌≤◌, length, replicate, None};
+ghost use Rattle.player.specs.Hands.{place as place_of, taken, put as putting};
 
 use host::turn::Turn;
 use host::turn::host::Host;
 use record::number::{ConnectionId, SlotNumber};
 use refusal::Refusal;
 use resource::Resource;
+use std::array;
 
 pub struct Hand {
-    // Of slot s and connection c at 2 * s + c - 1.
     turns: [Option<Turn>; 8],
+}
+
+// Where the turn of a slot and a connection is held.
+fn place(slot: u8, connection: u8) -> usize
+    requires slot { slot < 4 }
+    requires low { 1 ≤ connection }
+    requires high { connection ≤ 2 }
+    ensures value { result ≡ place_of slot connection }
+    ensures inside { result < 8 }
+{
+    slot as usize * 2 + connection as usize - 1
 }
 
 impl Hand {
@@ -18,7 +29,7 @@ impl Hand {
         ensures { result.turns ≡ replicate 8 None }
     {
         Hand {
-            turns: [None, None, None, None, None, None, None, None],
+            turns: array::from_fn(|_| None),
         }
     }
 
@@ -26,30 +37,25 @@ impl Hand {
     pub fn take(&mut self, slot: u8, connection: u8) -> Result<Turn, Refusal>
         ensures { taken slot connection self.old.turns ≡ (result, self.new.turns) }
     {
-        if slot > 3 {
-            return Err(Refusal::Slot);
-        }
-        if connection != 1 && connection != 2 {
-            return Err(Refusal::Connection);
-        }
-        match self.turns[slot as usize * 2 + connection as usize - 1].take() {
-            Some(turn) => Ok(turn),
-            None => Err(Refusal::Turn),
-        }
+        let slot = SlotNumber::new(slot).ok_or(Refusal::Slot)?;
+        let connection = ConnectionId::new(connection).ok_or(Refusal::Connection)?;
+        self.turns[place(slot.get(), connection.get())]
+            .take()
+            .ok_or(Refusal::Turn)
     }
 
     // Takes a turn in, and hands back the one that was in its place.
     pub fn put(&mut self, turn: Turn) -> Option<Turn>
         ensures put { putting turn self.old.turns ≡ (result, self.new.turns) }
-        ensures inside { place turn.slot.number turn.connection.number < length self.old.turns }
+        ensures inside { place_of turn.slot.number turn.connection.number < length self.old.turns }
     {
-        let at = turn.slot() as usize * 2 + turn.connection() as usize - 1;
-        self.turns[at].replace(turn)
+        self.turns[place(turn.slot(), turn.connection())].replace(turn)
     }
 
     // Every turn that is held expires.
     pub fn expire_all<R: Resource>(self, host: &mut Host<R>) {
         let Hand { turns } = self;
+        // An array's iterator would let its items go, and a turn cannot be let go.
         let [a, b, c, d, e, f, g, h] = turns;
         expire(host, a);
         expire(host, b);

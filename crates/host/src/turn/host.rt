@@ -1,5 +1,5 @@
 // The host: four slots over one resource.
-ghost use Rattle.std.specs.Prelude.{◌≡◌, ◌<◌, true, false, length, Ok, Err};
+ghost use Rattle.std.specs.Prelude.{◌≡◌, length, Ok, Err, IfOk, IfErr};
 ghost use Rattle.protocol.specs.Calls.{Act, plug as plugs, pull as pulls, end as ends, next as nexts, feed as feeds, expire as expires, done};
 ghost use Rattle.protocol.specs.Runs.{at as named, clock as clocked, time_fits as time_fitting, digits};
 ghost use Rattle.slot.specs.Stand.{plainly};
@@ -16,6 +16,7 @@ use record::slots::Record;
 use refusal::Refusal;
 use resource::Resource;
 use sound::Slot;
+use std::array;
 
 #[derive(Drop)]
 pub struct Host<R> {
@@ -30,7 +31,7 @@ impl<R: Resource> Host<R> {
     {
         Host {
             resource,
-            slots: [Slot::new(), Slot::new(), Slot::new(), Slot::new()],
+            slots: array::from_fn(|_| Slot::new()),
         }
     }
 
@@ -38,10 +39,10 @@ impl<R: Resource> Host<R> {
     pub fn clock(&mut self, time: [u8; 5]) -> Result<(), Refusal>
         ensures { Called R.Resource.meaning (clocked time) (plainly result) self.old self.new }
     {
-        if !time_fits(&time) {
-            return Err(self.no_time(time));
+        if !time_fits(time) {
+            return Err(Refusal::Clock);
         }
-        self.tell(time);
+        self.resource.clock(time);
         Ok(())
     }
 
@@ -49,30 +50,24 @@ impl<R: Resource> Host<R> {
     pub fn plug(&mut self, slot: u8, size: u16) -> Result<(), Refusal>
         ensures { Called R.Resource.meaning (named slot (plugs size)) (plainly result) self.old self.new }
     {
-        match SlotNumber::new(slot) {
-            Some(slot) => self.plug_at(slot, size),
-            None => Err(self.no_slot(slot)),
-        }
+        let at = self.slot(slot)?;
+        self.slots[at.get() as usize].plug(&mut self.resource, at, size)
     }
 
     // The module of a slot is gone.
     pub fn pull(&mut self, slot: u8) -> Result<(), Refusal>
         ensures { Called R.Resource.meaning (named slot pulls) (plainly result) self.old self.new }
     {
-        match SlotNumber::new(slot) {
-            Some(slot) => self.pull_at(slot),
-            None => Err(self.no_slot(slot)),
-        }
+        let at = self.slot(slot)?;
+        self.slots[at.get() as usize].pull(&mut self.resource, at)
     }
 
     // An Active connection is to be deleted.
     pub fn end(&mut self, slot: u8, connection: u8) -> Result<(), Refusal>
         ensures { Called R.Resource.meaning (named slot (ends connection)) (plainly result) self.old self.new }
     {
-        match SlotNumber::new(slot) {
-            Some(slot) => self.end_at(slot, connection),
-            None => Err(self.no_slot(slot)),
-        }
+        let at = self.slot(slot)?;
+        self.slots[at.get() as usize].end(&mut self.resource, at, connection)
     }
 
     // Writes the command that is due on a connection to the front of `out`.
@@ -81,10 +76,12 @@ impl<R: Resource> Host<R> {
         ensures bytes { out.new ≡ written (next_of result out.new) out.old }
         ensures whose { Whose slot connection result }
     {
-        match SlotNumber::new(slot) {
-            Some(slot) => self.next_at(slot, connection, out),
-            None => Err(self.no_slot(slot)),
-        }
+        let at = self.slot(slot)?;
+        let sent = self.slots[at.get() as usize].next(&self.resource, at, connection, out)?;
+        Ok(Next {
+            length: sent.length,
+            turn: hand_out(at, sent.turn),
+        })
     }
 
     // A module's LPDU comes in for a turn.
@@ -93,10 +90,8 @@ impl<R: Resource> Host<R> {
         ensures back { Back turn result }
     {
         match self.feed_at(turn.slot, turn.connection, lpdu) {
-            Ok(more) => {
-                if more {
-                    return Fed::More(turn);
-                }
+            Ok(true) => Fed::More(turn),
+            Ok(false) => {
                 turn.spend();
                 Fed::Done
             }
@@ -108,7 +103,7 @@ impl<R: Resource> Host<R> {
     pub fn expire(&mut self, turn: Turn)
         ensures { Called R.Resource.meaning (named turn.slot.number (expires turn.connection.number)) (Ok done) self.old self.new }
     {
-        self.expire_at(turn.slot, turn.connection);
+        self.slots[turn.slot.get() as usize].expire(&mut self.resource, turn.slot, turn.connection);
         turn.spend();
     }
 
@@ -117,10 +112,7 @@ impl<R: Resource> Host<R> {
         ensures { result ≡ size_at self.now slot }
     {
         let slot = SlotNumber::new(slot)?;
-        match self.kept(slot).agreed() {
-            Some(size) => Some(size.get()),
-            None => None,
-        }
+        self.kept(slot).agreed().map(|size| size.get())
     }
 
     // The state of a connection, and whether its turn is out.
@@ -141,10 +133,7 @@ impl<R: Resource> Host<R> {
         ensures { result ≡ session_at self.now slot number }
     {
         let slot = SlotNumber::new(slot)?;
-        match self.kept(slot).session(number) {
-            Some(session) => Some(session.row),
-            None => None,
-        }
+        self.kept(slot).session(number).map(|session| session.row)
     }
 
     fn kept(&self, slot: SlotNumber) -> &Record
@@ -153,60 +142,12 @@ impl<R: Resource> Host<R> {
         self.slots[slot.get() as usize].kept()
     }
 
-    // A call that names no slot is refused.
-    fn no_slot(&self, slot: u8) -> Refusal
-        requires { 3 < slot }
-        ensures { (a : Act) → Called R.Resource.meaning (named slot a) (Err result) self.now self.now }
+    // The slot that a call names; with none the call is refused.
+    fn slot(&self, slot: u8) -> Result<SlotNumber, Refusal>
+        ensures named { IfOk result (λ at. at.number ≡ slot) }
+        ensures refused { IfErr result (λ e. (a : Act) → Called R.Resource.meaning (named slot a) (Err e) self.now self.now) }
     {
-        Refusal::Slot
-    }
-
-    // A clock call that tells no time is refused.
-    fn no_time(&self, time: [u8; 5]) -> Refusal
-        requires { time_fitting time ≡ false }
-        ensures { Called R.Resource.meaning (clocked time) (Err result) self.now self.now }
-    {
-        Refusal::Clock
-    }
-
-    fn tell(&mut self, time: [u8; 5])
-        requires { time_fitting time ≡ true }
-        ensures { Called R.Resource.meaning (clocked time) (Ok done) self.old self.new }
-    {
-        self.resource.clock(time);
-    }
-
-    fn plug_at(&mut self, slot: SlotNumber, size: u16) -> Result<(), Refusal>
-        ensures { Called R.Resource.meaning (named slot.number (plugs size)) (plainly result) self.old self.new }
-    {
-        self.slots[slot.get() as usize].plug(&mut self.resource, slot, size)
-    }
-
-    fn pull_at(&mut self, slot: SlotNumber) -> Result<(), Refusal>
-        ensures { Called R.Resource.meaning (named slot.number pulls) (plainly result) self.old self.new }
-    {
-        self.slots[slot.get() as usize].pull(&mut self.resource, slot)
-    }
-
-    fn end_at(&mut self, slot: SlotNumber, connection: u8) -> Result<(), Refusal>
-        ensures { Called R.Resource.meaning (named slot.number (ends connection)) (plainly result) self.old self.new }
-    {
-        self.slots[slot.get() as usize].end(&mut self.resource, slot, connection)
-    }
-
-    // Only here is a turn made.
-    fn next_at(&mut self, slot: SlotNumber, connection: u8, out: &mut [u8]) -> Result<Next, Refusal>
-        ensures called { Called R.Resource.meaning (named slot.number (nexts connection (length out.old))) (next_of result out.new) self.old self.new }
-        ensures bytes { out.new ≡ written (next_of result out.new) out.old }
-        ensures whose { Whose slot.number connection result }
-    {
-        match self.slots[slot.get() as usize].next(&self.resource, slot, connection, out) {
-            Ok(sent) => Ok(Next {
-                length: sent.length,
-                turn: hand_out(slot, sent.turn),
-            }),
-            Err(e) => Err(e),
-        }
+        SlotNumber::new(slot).ok_or(Refusal::Slot)
     }
 
     fn feed_at(
@@ -219,21 +160,13 @@ impl<R: Resource> Host<R> {
     {
         self.slots[slot.get() as usize].feed(&mut self.resource, slot, connection, lpdu)
     }
-
-    fn expire_at(&mut self, slot: SlotNumber, connection: ConnectionId)
-        ensures { Called R.Resource.meaning (named slot.number (expires connection.number)) (Ok done) self.old self.new }
-    {
-        self.slots[slot.get() as usize].expire(&mut self.resource, slot, connection);
-    }
 }
 
+// Only here is a turn made.
 fn hand_out(slot: SlotNumber, connection: Option<ConnectionId>) -> Option<Turn>
     ensures { result ≡ option_map (λ c. record { slot = slot; connection = c }) connection }
 {
-    match connection {
-        Some(connection) => Some(Turn { slot, connection }),
-        None => None,
-    }
+    connection.map(|connection| Turn { slot, connection })
 }
 
 // A byte of two decimal digits, of a number that is at most this.
@@ -243,8 +176,9 @@ fn digits_fit(most: u8, b: u8) -> bool
     b / 16 <= 9 && b % 16 <= 9 && b / 16 * 10 + b % 16 <= most
 }
 
-fn time_fits(time: &[u8]) -> bool
-    ensures { result ≡ time_fitting time.now }
+fn time_fits(time: [u8; 5]) -> bool
+    ensures { result ≡ time_fitting time }
 {
-    time.len() == 5 && digits_fit(23, time[2]) && digits_fit(59, time[3]) && digits_fit(59, time[4])
+    let [_, _, hour, minute, second] = time;
+    digits_fit(23, hour) && digits_fit(59, minute) && digits_fit(59, second)
 }

@@ -1,9 +1,0 @@
-use Rattle.std.proofs.Common.{arith, rules}
-use Rattle.protocol.specs.Calls.{pull}
-use Rattle.slot.specs.Stand.{plainly}
-use Rattle.host.proofs.Called.{called_at}
-use Rattle.host.proofs.turn.host.Host.pull_at.Goals as goal
-
-pub returns : goal.returns
-returns g c =
-    called_at g.R.Resource.meaning g.R.Resource.laws c.args.self.now c.args.slot.number c.get.result (pull) (plainly c.pull.result) c.index-self-get.result c.pull.new.self c.pull.new.resource c.get.ensures (omega arith) (search rules) c.pull.ensures
