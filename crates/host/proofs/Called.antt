@@ -8,7 +8,7 @@ use Rattle.refusal.specs.declared.Refusal.TheVariants as no
 use Rattle.resource.specs.Meaning.{Meaning}
 use Rattle.resource.specs.Lawful.{Lawful}
 use Rattle.resource.specs.Places.{no_some}
-use Rattle.piece.specs.Options.{map_option}
+use Rattle.std.specs.Option.{option_map}
 use Rattle.protocol.specs.Results.{refuse}
 use Rattle.protocol.specs.Record as def
 use Rattle.protocol.specs.Calls.{Act, Answer, act, done}
@@ -47,7 +47,7 @@ module _ {S : Type 0} (M : Meaning S) (law : Lawful M) where
       off false y e = refl
 
   -- where a number names no slot every call is refused
-  pub refused_off : {A : Type 0} (f : A → ℕ) (h : Host S) (i : ℕ) (o : Option A) (r : Result A Refusal) → map_option f o ≡ (if ltb 3 i then None else Some i) → r ≡ ok_or o no.Slot
+  pub refused_off : {A : Type 0} (f : A → ℕ) (h : Host S) (i : ℕ) (o : Option A) (r : Result A Refusal) → option_map f o ≡ (if ltb 3 i then None else Some i) → r ≡ ok_or o no.Slot
       → IfErr r (λ e. (a : Act) → Called M (at i a) (Err e) h h)
   refused_off f h i (Some x) r e q = rw q tt
   refused_off f h i None r e q = rw q (λ a. called_off h i a (above (ltb 3 i) refl e))
