@@ -1,3 +1,3 @@
 pub mod Inside
-mod ReadingBack
+pub mod ReadingBack
 pub mod Worked

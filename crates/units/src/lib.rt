@@ -4,6 +4,7 @@
 
 ghost use Rattle.units.specs.Laws.{LengthsReadBack, LengthsShortest, CommandsReadBack, RepliesReadBack, LpdusReadBack, BodiesLieWithin, WorkedLengths};
 
+#[tactic(auto, using(crate::proofs::ReadingBack::lengths_back))]
 pub fn lengths_read_back()
     ensures { LengthsReadBack }
 {}
@@ -12,6 +13,7 @@ pub fn lengths_are_shortest()
     ensures { LengthsShortest }
 {}
 
+#[tactic(auto, using(crate::proofs::ReadingBack::commands_back))]
 pub fn commands_read_back()
     ensures { CommandsReadBack }
 {}
@@ -20,14 +22,17 @@ pub fn replies_read_back()
     ensures { RepliesReadBack }
 {}
 
+#[tactic(auto, using(crate::proofs::ReadingBack::lpdus_back))]
 pub fn lpdus_read_back()
     ensures { LpdusReadBack }
 {}
 
+#[tactic(auto, using(crate::proofs::Inside::lies_within))]
 pub fn bodies_lie_within()
     ensures { BodiesLieWithin }
 {}
 
+#[tactic(auto, using(crate::proofs::Worked::worked))]
 pub fn worked_lengths()
     ensures { WorkedLengths }
 {}
@@ -44,10 +49,7 @@ mod tests {
     use writer::{WriteFault, write_length};
 
     fn length(bytes: &[u8]) -> Option<usize> {
-        match Cursor::new(bytes).length() {
-            Ok(n) => Some(n),
-            Err(_) => None,
-        }
+        Cursor::new(bytes).length().ok()
     }
 
     #[test]
@@ -71,10 +73,7 @@ mod tests {
     }
 
     fn link_fault(bytes: &[u8]) -> Option<LinkFault> {
-        match LpduReader::new(bytes).fragment(16, 1) {
-            Ok(_) => None,
-            Err(fault) => Some(fault),
-        }
+        LpduReader::new(bytes).fragment(16, 1).err()
     }
 
     #[test]
@@ -95,10 +94,10 @@ mod tests {
     }
 
     fn response_fault(bytes: &[u8]) -> Option<Fault> {
-        match TpduReader::new(bytes).response(1) {
-            Ok(_) => None,
-            Err(fault) => Some(fault.0),
-        }
+        TpduReader::new(bytes)
+            .response(1)
+            .err()
+            .map(|fault| fault.0)
     }
 
     #[test]
@@ -139,10 +138,7 @@ mod tests {
     }
 
     fn command_fault(bytes: &[u8]) -> Option<Fault> {
-        match TpduReader::new(bytes).command(1) {
-            Ok(_) => None,
-            Err(fault) => Some(fault.0),
-        }
+        TpduReader::new(bytes).command(1).err().map(|fault| fault.0)
     }
 
     #[test]
@@ -168,17 +164,11 @@ mod tests {
     }
 
     fn request_fault(bytes: &[u8]) -> Option<Fault> {
-        match SpduReader::new(bytes).request() {
-            Ok(_) => None,
-            Err(fault) => Some(fault.0),
-        }
+        SpduReader::new(bytes).request().err().map(|fault| fault.0)
     }
 
     fn reply_fault(bytes: &[u8]) -> Option<Fault> {
-        match SpduReader::new(bytes).reply() {
-            Ok(_) => None,
-            Err(fault) => Some(fault.0),
-        }
+        SpduReader::new(bytes).reply().err().map(|fault| fault.0)
     }
 
     #[test]
@@ -217,10 +207,7 @@ mod tests {
     }
 
     fn object_fault(bytes: &[u8]) -> Option<Fault> {
-        match ApduReader::new(bytes).object() {
-            Ok(_) => None,
-            Err(fault) => Some(fault.0),
-        }
+        ApduReader::new(bytes).object().err().map(|fault| fault.0)
     }
 
     #[test]
