@@ -1,7 +1,7 @@
 -- One connection changed twice, and changed back.
-use Rattle.std.proofs.Common.{◌≡◌, ℕ, ◌+◌, ◌<◌, ◌≤◌, Bool, true, false, ltb, leb, List, [], ◌++◌, length, take, Err, Result, sym, refl, ap, ◌∙◌, ⊎_elim}
+use Rattle.std.proofs.Common.{◌≡◌, ℕ, ◌+◌, ◌<◌, ◌≤◌, Bool, true, false, ltb, leb, List, [], ◌++◌, length, take, Result, sym, refl, ap, ◌∙◌, ⊎_elim}
 use Rattle.std.proofs.lemmas.List.{length-append, take_at}
-use Rattle.std.proofs.lemmas.Bool.{lt-ltb, le-ltb, le-leb, lt-leb, cases_lt}
+use Rattle.std.proofs.lemmas.Bool.{le-ltb, lt-leb, cases_lt}
 use Rattle.resource.specs.Meaning.{Meaning}
 use Rattle.resource.specs.Places.{put_at, put_put, put_same, not_both}
 use Rattle.protocol.specs.Results.{refuse}
@@ -11,28 +11,16 @@ use Rattle.record.specs.Adding.{adding}
 use Rattle.record.specs.Records.{alter}
 use Rattle.record.specs.Views.{chaining, chained_to, fragments_to}
 
--- what was added, and what was not
+-- what was added
 pub added : {A : Type 0} (t r : Bool) (f : A → A) (s s' : A) → adding t f s ≡ (r, s') → r ≡ true → (t ≡ true) × (s' ≡ f s)
 added true r f s s' e h = (refl, sym (ap (λ p. p.1) e))
 added false r f s s' e h = not_both r h (sym (ap (λ p. p.0) e))
 
-pub not_added : {A : Type 0} (t r : Bool) (f : A → A) (s s' : A) → adding t f s ≡ (r, s') → r ≡ false → (t ≡ false) × (s' ≡ s)
-not_added true r f s s' e h = not_both r (sym (ap (λ p. p.0) e)) h
-not_added false r f s s' e h = (refl, sym (ap (λ p. p.1) e))
-
--- whether bytes are too many for a limit
-pub too_many : (most : ℕ) (xs ys : List ℕ) → leb (length xs + length ys) most ≡ false → ltb most (length (xs ++ ys)) ≡ true
-too_many most xs ys e =
-    rw (length-append xs ys)
-    (⊎_elim (λ (h : most < length xs + length ys). lt-ltb most _ h) (λ (h : length xs + length ys ≤ most). not_both _ (le-leb _ most h) e) (cases_lt most (length xs + length ys)))
-
+-- bytes that are not too many for a limit
 pub not_many : (most : ℕ) (xs ys : List ℕ) → leb (length xs + length ys) most ≡ true → ltb most (length (xs ++ ys)) ≡ false
 not_many most xs ys e =
     rw (length-append xs ys)
     (⊎_elim (λ (h : most < length xs + length ys). not_both _ e (lt-leb _ most h)) (λ (h : length xs + length ys ≤ most). le-ltb most _ h) (cases_lt most (length xs + length ys)))
-
-pub refused_by : {A E : Type 0} (r : Result A E) (t : Bool) (e : E) → t ≡ true → Err e ≡ refuse t e r
-refused_by r t e h = sym (ap (λ z. refuse z e r) h)
 
 pub passed_by : {A E : Type 0} {r : Result A E} (t : Bool) (e : E) → t ≡ false → r ≡ refuse t e r
 passed_by {r = r} t e h = sym (ap (λ z. refuse z e r) h)
