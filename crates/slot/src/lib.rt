@@ -6,8 +6,9 @@ ghost use Rattle.resource.specs.Tables.{numbers};
 ghost use Rattle.protocol.specs.Calls.{close_row, close_all as closed_all, leave as leaving, plug as plugging, pull as pulling, end as ending, expire as expiring, done};
 ghost use Rattle.slot.specs.Stand.{Step, Did, plainly};
 
+use number::ConnectionId;
 use protocol::State;
-use record::number::{AgreedSize, ConnectionId};
+use record::size::AgreedSize;
 use record::slots::Record;
 use refusal::Refusal;
 use resource::Resource;
