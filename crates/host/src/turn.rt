@@ -1,8 +1,8 @@
 // Turns, and the answers that carry them.
 ghost use Rattle.std.specs.Prelude.{◌≡◌};
 
+use number::{ConnectionId, SlotNumber};
 use protocol::State;
-use record::number::{ConnectionId, SlotNumber};
 use refusal::Refusal;
 
 pub mod host;

@@ -13,6 +13,7 @@ pub struct Within<const LOW: u8, const HIGH: u8> {
 }
 
 impl<const LOW: u8, const HIGH: u8> Within<LOW, HIGH> {
+    // The number, if it is within the limits.
     pub fn new(number: u8) -> Option<Within<LOW, HIGH>>
         ensures { option_map (λ n. n.number) result ≡ (if nat_le LOW number && nat_le number HIGH then Some number else None) }
     {
@@ -23,6 +24,7 @@ impl<const LOW: u8, const HIGH: u8> Within<LOW, HIGH> {
         }
     }
 
+    // The number itself.
     pub fn get(self) -> u8
         ensures value { result ≡ self.entry.number }
         ensures low { LOW ≤ result }
@@ -47,7 +49,7 @@ impl Within<1, 2> {
         ensures { result.number ≡ 3 - self.number }
     {
         Within {
-            number: 3 - self.number,
+            number: 3 - self.get(),
         }
     }
 }

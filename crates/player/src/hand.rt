@@ -4,7 +4,7 @@ ghost use Rattle.player.specs.Hands.{place as place_of, taken, put as putting};
 
 use host::turn::Turn;
 use host::turn::host::Host;
-use record::number::{ConnectionId, SlotNumber};
+use number::{ConnectionId, SlotNumber};
 use refusal::Refusal;
 use resource::Resource;
 use std::array;

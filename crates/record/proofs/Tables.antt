@@ -1,8 +1,8 @@
 -- One element changed, in the table of a list.
-use Rattle.std.proofs.Common.{◌≡◌, ℕ, zero, suc, ◌-◌, ◌<◌, ◌≤◌, eqb, ◌⊎◌, List, length, get_or, set, sym, refl, ap, ◌∙◌, ⊎_elim, arith}
+use Rattle.std.proofs.Common.{◌≡◌, ℕ, zero, suc, ◌-◌, ◌<◌, ◌≤◌, eqb, List, length, get_or, set, sym, refl, ap, ◌∙◌, arith}
 use mathlib.Core.Path.{fun_ext}
 use Rattle.std.proofs.lemmas.Bool.{eqb-true, eqb-false, cond_both}
-use Rattle.std.proofs.lemmas.List.{get_or-set_same, get_or-set_other, get_or_past}
+use Rattle.std.proofs.lemmas.List.{get_or-set_same, get_or-set_other}
 use Rattle.resource.specs.Tables.{put}
 use Rattle.record.specs.Records.{table}
 
@@ -22,8 +22,3 @@ table_set d x xs c h lt = fun_ext (λ n. set_at d x xs (c - 1) n lt) ∙ ap (λ 
 
 pub table_at : {A : Type 0} (d : A) (xs : List A) (c : ℕ) → 1 ≤ c → table d xs c ≡ get_or xs (c - 1) d
 table_at d xs c h = ap (table d xs) (place c h)
-
--- a number with no element
-pub table_past : {A : Type 0} (d : A) (xs : List A) (n : ℕ) → (n ≡ 0) ⊎ (length xs < n) → table d xs n ≡ d
-table_past d xs zero past = refl
-table_past d xs (suc k) past = get_or_past xs k d (⊎_elim (λ (e : suc k ≡ 0). let z : ⊥ = omega arith in absurd z) (λ (h : length xs < suc k). let far : length xs ≤ k = omega arith in far) past)

@@ -1,4 +1,4 @@
 pub mod Adding
-pub mod Buffers
+pub mod Lines
 pub mod Views
 pub mod Records

@@ -1,9 +1,9 @@
 -- A slot's record in the code, as the definitions have it.
-use Rattle.std.specs.Prelude.{ℕ, zero, suc, false, List, map, is_some, Some, None, Option, slice_index_or}
+use Rattle.std.specs.Prelude.{ℕ, zero, suc, false, List, [], ◌∷◌, is_some, Some, None, Option, slice_index_or}
 use Rattle.protocol.specs.declared.State.TheVariants.{Idle}
 use Rattle.protocol.specs.declared.Row.{Row}
 use Rattle.protocol.specs.Record.{Slot, Conn, bare, with_conn}
-use Rattle.record.specs.declared.number.AgreedSize.{AgreedSize}
+use Rattle.record.specs.declared.size.AgreedSize.{AgreedSize}
 use Rattle.record.specs.declared.slots.Record.{Record}
 use Rattle.record.specs.declared.slots.Session.{Session}
 use Rattle.record.specs.Views.{conn_of}
@@ -22,7 +22,7 @@ unfoldable pub slot_of : Record → Slot
 slot_of b = record {
   present = is_some b.agreed;
   size = size_of b.agreed;
-  conn = table (bare Idle false) (map conn_of b.connections);
+  conn = table (bare Idle false) (conn_of b.one ∷ conn_of b.two ∷ []);
   rows = table None b.rows;
 }
 

@@ -7,7 +7,6 @@ use Rattle.resource.specs.Views.{sent}
 use Rattle.protocol.specs.declared.Owed.{Owed}
 use Rattle.protocol.specs.declared.Owed.TheVariants.{NewConnection, NoConnection, Say}
 use Rattle.protocol.specs.Record.{Conn}
-use Rattle.record.specs.Buffers.{items}
 use Rattle.record.specs.declared.connection.Connection.{Connection}
 
 -- with another way to hold an object
@@ -25,8 +24,8 @@ conn_of x = record {
   out = x.out;
   available = x.available;
   owed = option_map owed_of x.owed;
-  fragments = items x.fragments;
-  chained = items x.chained;
+  fragments = x.fragments.items;
+  chained = x.chained.items;
 }
 
 -- other fragments, and other data

@@ -5,7 +5,7 @@ ghost use Rattle.protocol.specs.Record.{bare as stripped, sent, owing, unmarked,
 ghost use Rattle.record.specs.Views.{conn_of, owed_of, fragments_to, chained_to, part_of, chaining};
 ghost use Rattle.record.specs.Adding.{adding};
 
-use crate::buffer::Buffer;
+use arrayvec::ArrayVec;
 use piece::Piece;
 use protocol::{Owed, State};
 
@@ -14,7 +14,7 @@ pub const FRAGMENTS: usize = 1024;
 
 pub const DATA: usize = 2048;
 
-#[derive(Clone, Copy)]
+#[derive(Drop)]
 pub struct Connection {
     state: State,
     // Its turn is out.
@@ -22,18 +22,16 @@ pub struct Connection {
     // The module has data to send (DA).
     available: bool,
     owed: Option<Owed<Piece>>,
-    fragments: Buffer,
-    chained: Buffer,
+    fragments: ArrayVec<u8, FRAGMENTS>,
+    chained: ArrayVec<u8, DATA>,
 }
 
 // The part of some bytes from a place on, of so many bytes if there are as many.
 fn part(bytes: &[u8], start: usize, n: usize) -> &[u8]
     ensures { result.now ≡ take n (drop start bytes.now) }
 {
-    let from = start.min(bytes.len());
-    let rest = &bytes[from..];
-    let to = n.min(rest.len());
-    &rest[..to]
+    let rest = bytes.get(start..).unwrap_or(&[]);
+    rest.get(..n).unwrap_or(rest)
 }
 
 impl Connection {
@@ -45,8 +43,8 @@ impl Connection {
             out: false,
             available: false,
             owed: None,
-            fragments: Buffer::new(),
-            chained: Buffer::new(),
+            fragments: ArrayVec::new(),
+            chained: ArrayVec::new(),
         }
     }
 
@@ -124,7 +122,7 @@ impl Connection {
     pub fn join(&mut self, more: &[u8]) -> bool
         ensures { adding (nat_le (length (conn_of self.old).fragments + length more.now) 1024) (joining more.now) (conn_of self.old) ≡ (result, conn_of self.new) }
     {
-        self.fragments.add(more, FRAGMENTS)
+        self.fragments.try_extend_from_slice(more).is_ok()
     }
 
     // The first n bytes of the fragments are left.
@@ -139,7 +137,7 @@ impl Connection {
         ensures { adding (nat_le (length (conn_of self.old).chained + length (part_of start n (conn_of self.old))) 2048) (chaining start n) (conn_of self.old) ≡ (result, conn_of self.new) }
     {
         let more = part(self.fragments.as_slice(), start, n);
-        self.chained.add(more, DATA)
+        self.chained.try_extend_from_slice(more).is_ok()
     }
 
     // The first n bytes of the data are left.

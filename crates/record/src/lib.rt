@@ -1,7 +1,6 @@
 // A slot's record.
 #![tactic(auto)]
 
-pub mod buffer;
 pub mod connection;
-pub mod number;
+pub mod size;
 pub mod slots;

@@ -1,14 +1,17 @@
 // What a slot keeps, with no promise between its parts.
-ghost use Rattle.std.specs.Prelude.{◌≡◌, ◌+◌, [], length, take, is_some, None, nat_le};
+ghost use Rattle.std.specs.Prelude.{◌≡◌, ◌+◌, ◌<◌, [], length, take, is_some, nat_le, IfSome};
+ghost use Rattle.std.specs.Borrow.{sem};
 ghost use Rattle.std.specs.Option.{option_map};
 ghost use Rattle.resource.specs.Tables.{numbers, first};
 ghost use Rattle.protocol.specs.Record.{bare as stripped, sent, owing, unmarked, joining, heard, fresh, with_row, with_module, without_module, free, greets as greets_on};
 ghost use Rattle.record.specs.Views.{conn_of, owed_of, fragments_to, chained_to, part_of, chaining};
 ghost use Rattle.record.specs.Adding.{adding};
-ghost use Rattle.record.specs.Records.{slot_of, size_of, alter, table, numbered, session_view};
+ghost use Rattle.record.specs.Records.{slot_of, size_of, alter, numbered, session_view};
+ghost use Rattle.record.specs.Lines.{LendsLine};
 
 use crate::connection::Connection;
-use crate::number::{AgreedSize, ConnectionId, SessionNumber};
+use crate::size::AgreedSize;
+use number::{ConnectionId, SessionNumber};
 use piece::Piece;
 use protocol::{Owed, Row, State};
 
@@ -19,15 +22,18 @@ pub struct Session {
     pub row: Row,
 }
 
-#[derive(Clone, Copy)]
+#[derive(Drop)]
 pub struct Record {
     // There is a module, with this agreed size.
     agreed: Option<AgreedSize>,
-    connections: [Connection; 2],
+    // Connections 1 and 2.
+    one: Connection,
+    two: Connection,
     // The session with number n is at n - 1.
     rows: [Option<Row>; 16],
 }
 
+#[tactic(auto, using(crate::proofs::Rows::line_write, crate::proofs::Rows::row_write), unfolding(crate::specs::Records::slot_of))]
 impl Record {
     // A slot of a new host.
     pub fn new() -> Record
@@ -35,7 +41,8 @@ impl Record {
     {
         Record {
             agreed: None,
-            connections: [Connection::new(), Connection::new()],
+            one: Connection::new(),
+            two: Connection::new(),
             rows: [None; 16],
         }
     }
@@ -50,89 +57,101 @@ impl Record {
     pub fn connection(&self, c: ConnectionId) -> &Connection
         ensures { conn_of result.now ≡ (slot_of self.now).conn c.number }
     {
-        &self.connections[c.number as usize - 1]
+        match c.get() {
+            1 => &self.one,
+            _ => &self.two,
+        }
+    }
+
+    // The connection, to be changed.
+    fn line(&mut self, c: ConnectionId) -> &mut Connection
+        ensures* writes_back { sem 𝓛 (LendsLine self.entry c.number result) }
+        ensures value { conn_of result.now ≡ (slot_of self.old).conn c.number }
+    {
+        match c.get() {
+            1 => &mut self.one,
+            _ => &mut self.two,
+        }
     }
 
     pub fn row(&self, n: SessionNumber) -> Option<Row>
         ensures { result ≡ (slot_of self.now).rows n.number }
     {
-        self.rows[n.number as usize - 1]
+        self.rows[n.get() as usize - 1]
     }
 
     pub fn set_row(&mut self, n: SessionNumber, row: Option<Row>)
         ensures { slot_of self.new ≡ with_row n.number row (slot_of self.old) }
     {
-        self.rows[n.number as usize - 1] = row;
+        self.rows[n.get() as usize - 1] = row;
     }
 
     pub fn bare(&mut self, c: ConnectionId, state: State, out: bool)
         ensures { slot_of self.new ≡ alter c.number (λ _. stripped state out) (slot_of self.old) }
     {
-        self.connections[c.number as usize - 1].bare(state, out);
+        self.line(c).bare(state, out);
     }
 
     pub fn send(&mut self, c: ConnectionId, state: State)
         ensures { slot_of self.new ≡ alter c.number (sent state) (slot_of self.old) }
     {
-        self.connections[c.number as usize - 1].send(state);
+        self.line(c).send(state);
     }
 
     pub fn owe(&mut self, c: ConnectionId, owed: Owed<Piece>)
         ensures { slot_of self.new ≡ alter c.number (owing (owed_of owed)) (slot_of self.old) }
     {
-        self.connections[c.number as usize - 1].owe(owed);
+        self.line(c).owe(owed);
     }
 
     pub fn unmark(&mut self, c: ConnectionId)
         ensures { slot_of self.new ≡ alter c.number unmarked (slot_of self.old) }
     {
-        self.connections[c.number as usize - 1].unmark();
+        self.line(c).unmark();
     }
 
     pub fn join(&mut self, c: ConnectionId, more: &[u8]) -> bool
         ensures { adding (nat_le (length ((slot_of self.old).conn c.number).fragments + length more.now) 1024) (alter c.number (joining more.now)) (slot_of self.old) ≡ (result, slot_of self.new) }
     {
-        self.connections[c.number as usize - 1].join(more)
+        self.line(c).join(more)
     }
 
     pub fn cut(&mut self, c: ConnectionId, n: usize)
         ensures { slot_of self.new ≡ alter c.number (λ x. fragments_to (take n x.fragments) x) (slot_of self.old) }
     {
-        self.connections[c.number as usize - 1].cut(n);
+        self.line(c).cut(n);
     }
 
     pub fn chain(&mut self, c: ConnectionId, start: usize, n: usize) -> bool
         ensures { adding (nat_le (length ((slot_of self.old).conn c.number).chained + length (part_of start n ((slot_of self.old).conn c.number))) 2048) (alter c.number (chaining start n)) (slot_of self.old) ≡ (result, slot_of self.new) }
     {
-        self.connections[c.number as usize - 1].chain(start, n)
+        self.line(c).chain(start, n)
     }
 
     pub fn cut_data(&mut self, c: ConnectionId, n: usize)
         ensures { slot_of self.new ≡ alter c.number (λ x. chained_to (take n x.chained) x) (slot_of self.old) }
     {
-        self.connections[c.number as usize - 1].cut_data(n);
+        self.line(c).cut_data(n);
     }
 
     pub fn hear(&mut self, c: ConnectionId, available: bool)
         ensures { slot_of self.new ≡ alter c.number (λ x. heard available x.chained x) (slot_of self.old) }
     {
-        self.connections[c.number as usize - 1].hear(available);
+        self.line(c).hear(available);
     }
 
     pub fn hear_all(&mut self, c: ConnectionId, available: bool)
         ensures { slot_of self.new ≡ alter c.number (heard available []) (slot_of self.old) }
     {
-        self.connections[c.number as usize - 1].hear_all(available);
+        self.line(c).hear_all(available);
     }
 
     // A module is there.
     pub fn plug(&mut self, size: AgreedSize)
         ensures { slot_of self.new ≡ with_module size.bytes (slot_of self.old) }
     {
-        let (one, two) = (ConnectionId { number: 1 }, ConnectionId { number: 2 });
-        let (first, second) = (self.connection(one).is_out(), self.connection(two).is_out());
-        self.bare(two, State::Idle, second);
-        self.bare(one, State::CreateDue, first);
+        self.one.bare(State::CreateDue, self.one.is_out());
+        self.two.bare(State::Idle, self.two.is_out());
         self.agreed = Some(size);
     }
 
@@ -140,10 +159,8 @@ impl Record {
     pub fn pull(&mut self)
         ensures { slot_of self.new ≡ without_module (slot_of self.old) }
     {
-        let (one, two) = (ConnectionId { number: 1 }, ConnectionId { number: 2 });
-        let (first, second) = (self.connections[0].is_out(), self.connection(two).is_out());
-        self.bare(two, State::Idle, second);
-        self.bare(one, State::Idle, first);
+        self.one.bare(State::Idle, self.one.is_out());
+        self.two.bare(State::Idle, self.two.is_out());
         self.agreed = None;
         self.rows = [None; 16];
     }
@@ -152,8 +169,8 @@ impl Record {
     pub fn session(&self, number: u16) -> Option<Session>
         ensures { session_view result ≡ numbered number ((slot_of self.now).rows number) }
     {
-        let row = row_in(&self.rows, number)?;
-        let number = SessionNumber::new(number)?;
+        let number = u8::try_from(number).ok().and_then(SessionNumber::new)?;
+        let row = self.row(number)?;
         Some(Session { number, row })
     }
 
@@ -161,44 +178,28 @@ impl Record {
     pub fn first_free(&self) -> Option<SessionNumber>
         ensures { option_map (λ n. n.number) result ≡ free (slot_of self.now).rows }
     {
-        for number in 1..17u8 {
-            let n = SessionNumber { number };
-            if self.row(n).is_none() {
-                return Some(n);
-            }
-        }
-        None
+        number_at(self.rows.iter().position(|row| row.is_none()))
     }
 
     // The least number of a session of the connection whose greeting is due.
     pub fn first_greeting(&self, c: ConnectionId) -> Option<SessionNumber>
         ensures { option_map (λ n. n.number) result ≡ first (λ n. greets_on c.number ((slot_of self.now).rows n)) numbers }
     {
-        for number in 1..17u8 {
-            let n = SessionNumber { number };
-            if greets(c.number, self.row(n)) {
-                return Some(n);
-            }
-        }
-        None
+        number_at(self.rows.iter().position(|row| greets(c.get(), *row)))
     }
+}
+
+// The number of the session whose row is at a place.
+fn number_at(place: Option<usize>) -> Option<SessionNumber>
+    requires { IfSome place (λ k. k < 16) }
+    ensures { option_map (λ n. n.number) result ≡ option_map (λ k. k + 1) place }
+{
+    SessionNumber::new(place? as u8 + 1)
 }
 
 // Whether a session is open on a connection, and its greeting is due.
 fn greets(c: u8, row: Option<Row>) -> bool
     ensures { result ≡ greets_on c row }
 {
-    match row {
-        Some(r) => r.due && r.connection == c,
-        None => false,
-    }
-}
-
-fn row_in(rows: &[Option<Row>], n: u16) -> Option<Row>
-    ensures { result ≡ table None rows.now n }
-{
-    if n == 0 || n as usize > rows.len() {
-        return None;
-    }
-    rows[n as usize - 1]
+    row.is_some_and(|r| r.due && r.connection == c)
 }

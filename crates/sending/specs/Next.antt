@@ -2,7 +2,7 @@
 use Rattle.std.specs.Prelude.{◌≡◌, ℕ, cond, List, ◌++◌, length, take, drop, is_some, Some, None, Ok, Err, Option, Result, nat_lt}
 use Rattle.refusal.specs.declared.Refusal.{Refusal}
 use Rattle.protocol.specs.Calls.{Answer, wrote, done, turn_back}
-use Rattle.record.specs.declared.number.ConnectionId.{ConnectionId}
+use Rattle.number.specs.declared.Within.{Within}
 use Rattle.sending.specs.declared.Sent.{Sent}
 
 -- how many bytes are written, if there is room, and the buffer after
@@ -21,7 +21,7 @@ written (Ok turn_back) out = out
 written (Err e) out = out
 
 -- a turn that is handed out is this connection's
-abbrev pub Names : ℕ → Option ConnectionId → Type 0
+abbrev pub Names : ℕ → Option (Within 1 2) → Type 0
 Names c None = Unit {0}
 Names c (Some x) = x.number ≡ c
 

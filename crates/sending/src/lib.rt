@@ -19,9 +19,10 @@ ghost use Rattle.sending.specs.Due.{plain_due, turn_due, left_due, owed_due, due
 ghost use Rattle.sending.specs.Next.{fitting, sent_of, written, Names, Whose};
 
 use lpdu::write_lpdus;
+use number::{ConnectionId, SessionNumber};
 use piece::Piece;
 use protocol::{Owed, Row, State};
-use record::number::{AgreedSize, ConnectionId, SessionNumber};
+use record::size::AgreedSize;
 use record::slots::Record;
 use refusal::Refusal;
 use resource::Resource;

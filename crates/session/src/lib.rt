@@ -14,9 +14,9 @@ ghost use Rattle.session.specs.Pass.{owes, passes};
 
 use apdu::{Apdu, ApduReader};
 use identifier::is_older;
+use number::ConnectionId;
 use piece::Piece;
 use protocol::{Owed, Row};
-use record::number::ConnectionId;
 use record::slots::Record;
 use refusal::Refusal;
 use resource::{Readiness, Resource};

@@ -9,8 +9,9 @@ ghost use Rattle.record.specs.Records.{slot_of, numbered, session_view};
 ghost use Rattle.slot.specs.Stand.{plainly};
 ghost use Rattle.slot.specs.Places.{StepAt, DidAt};
 
+use number::ConnectionId;
 use protocol::State;
-use record::number::{AgreedSize, ConnectionId};
+use record::size::AgreedSize;
 use record::slots::{Record, Session};
 use refusal::Refusal;
 use resource::Resource;

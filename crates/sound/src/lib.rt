@@ -10,7 +10,7 @@ ghost use Rattle.slot.specs.Stand.{Did, plainly};
 ghost use Rattle.feeding.specs.Feed.{turned};
 ghost use Rattle.sending.specs.Next.{sent_of, written, Whose};
 
-use record::number::{ConnectionId, SlotNumber};
+use number::{ConnectionId, SlotNumber};
 use record::slots::Record;
 use refusal::Refusal;
 use resource::Resource;
@@ -18,7 +18,7 @@ use sending::Sent;
 use slot::Place;
 
 // No slot can exist with a session on a connection that is not Active, one number in two rows, or an owed command where the turn is out.
-#[derive(Clone, Copy)]
+#[derive(Drop)]
 pub struct Slot {
     kept: Record,
     ghost sound: { ∥ Sound (slot_of kept) ∥₁ },

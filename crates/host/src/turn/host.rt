@@ -10,8 +10,8 @@ ghost use Rattle.record.specs.Records.{slot_of};
 ghost use Rattle.host.specs.View.{Called, Begun, slot_at, fed_of, Back, next_of, Whose, size_at, line_at, session_at};
 
 use super::{Fed, Line, Next, Turn};
+use number::{ConnectionId, SlotNumber};
 use protocol::Row;
-use record::number::{ConnectionId, SlotNumber};
 use record::slots::Record;
 use refusal::Refusal;
 use resource::Resource;

@@ -1,23 +1,11 @@
-use Rattle.std.proofs.Common.{ℕ, Bool, not, is_some, sym, ap, ◌∙◌, arith}
-use Rattle.resource.specs.Tables.{first}
-use Rattle.record.specs.Records.{slot_of}
-use Rattle.record.proofs.Rows.{numbered, first_here, first_later, first_none}
+use Rattle.std.proofs.Common.{◌≡◌, true, false, not, is_some, ◌∙◌, rules}
+use borrow.Author.Tests.{tests}
+use Rattle.std.proofs.lemmas.Iterator.{YieldsList-from_slice, IsFirst-from_position}
+use Rattle.record.proofs.Rows.{first_place}
 use Rattle.record.proofs.slots.Record.first_free.Goals as goal
-
-pub loop-number-init : goal.loop-number-init
-loop-number-init c = numbered (first (λ n. not (is_some ((slot_of c.args.self.now).rows n))))
-
-pub returns-then-is_none : goal.returns-then-is_none
-returns-then-is_none c =
-    let p : ℕ → Bool = λ n. not (is_some ((slot_of c.args.self.now).rows n)) in
-    first_here p c.loop-number.number (omega arith) (ap not (ap is_some (sym c.row.ensures) ∙ c.if-is_none.ensures)) ∙ c.loop-number.invariant
-
-pub loop-number-preserved : goal.loop-number-preserved
-loop-number-preserved c =
-    let p : ℕ → Bool = λ n. not (is_some ((slot_of c.args.self.now).rows n)) in
-    first_later p c.loop-number.number (omega arith) (ap not (ap is_some (sym c.row.ensures) ∙ c.if-is_none.ensures)) ∙ c.loop-number.invariant
 
 pub returns : goal.returns
 returns c =
-    let p : ℕ → Bool = λ n. not (is_some ((slot_of c.args.self.now).rows n)) in
-    first_none p c.loop-number.number (omega arith) ∙ c.loop-number.invariant
+    c.number_at.ensures
+    ∙ first_place (λ r. not (is_some r)) c.args.self.now c.position.result (search rules)
+    (IsFirst-from_position _ _ _ (λ r. not (is_some r) ≡ true) (λ r. not (is_some r) ≡ false) c.position.ensures.ran (YieldsList-from_slice c.args.self.now.rows cc) (λ x q k. search (rules, tests)) (λ x q k. search (rules, tests)))

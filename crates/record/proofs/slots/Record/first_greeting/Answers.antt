@@ -1,24 +1,12 @@
-use Rattle.std.proofs.Common.{ℕ, Bool, sym, ap, ◌∙◌, arith}
+use Rattle.std.proofs.Common.{◌≡◌, true, false, ◌∙◌, rules}
+use borrow.Author.Tests.{tests}
+use Rattle.std.proofs.lemmas.Iterator.{YieldsList-from_slice, IsFirst-from_position}
 use Rattle.protocol.specs.Record.{greets}
-use Rattle.resource.specs.Tables.{first}
-use Rattle.record.specs.Records.{slot_of}
-use Rattle.record.proofs.Rows.{numbered, first_here, first_later, first_none}
+use Rattle.record.proofs.Rows.{first_place}
 use Rattle.record.proofs.slots.Record.first_greeting.Goals as goal
-
-pub loop-number-init : goal.loop-number-init
-loop-number-init c = numbered (first (λ n. greets c.args.c.number ((slot_of c.args.self.now).rows n)))
-
-pub returns-then-greets : goal.returns-then-greets
-returns-then-greets c =
-    let p : ℕ → Bool = λ n. greets c.args.c.number ((slot_of c.args.self.now).rows n) in
-    first_here p c.loop-number.number (omega arith) (ap (greets c.args.c.number) (sym c.row.ensures) ∙ sym c.if-greets.ensures) ∙ c.loop-number.invariant
-
-pub loop-number-preserved : goal.loop-number-preserved
-loop-number-preserved c =
-    let p : ℕ → Bool = λ n. greets c.args.c.number ((slot_of c.args.self.now).rows n) in
-    first_later p c.loop-number.number (omega arith) (ap (greets c.args.c.number) (sym c.row.ensures) ∙ sym c.if-greets.ensures) ∙ c.loop-number.invariant
 
 pub returns : goal.returns
 returns c =
-    let p : ℕ → Bool = λ n. greets c.args.c.number ((slot_of c.args.self.now).rows n) in
-    first_none p c.loop-number.number (omega arith) ∙ c.loop-number.invariant
+    c.number_at.ensures
+    ∙ first_place (greets c.args.c.number) c.args.self.now c.position.result (search rules)
+    (IsFirst-from_position _ _ _ (λ r. greets c.args.c.number r ≡ true) (λ r. greets c.args.c.number r ≡ false) c.position.ensures.ran (YieldsList-from_slice c.args.self.now.rows cc) (λ x q k. search (rules, tests)) (λ x q k. search (rules, tests)))
