@@ -42,7 +42,7 @@ pub enum Fed {
     Refused(Turn, Refusal),
 }
 
-// How many bytes were written, and the turn that is handed out.
+// How many bytes were written, and the turn that is handed out. It is no copy of `Sent` of crate sending, since a turn cannot be copied.
 pub struct Next {
     pub length: usize,
     pub turn: Option<Turn>,

@@ -36,46 +36,14 @@ impl<R: Resource> Desk<R> {
         ensures tied { Tied self.new }
     {
         match call {
-            Call::Clock(time) => self.clock(time),
-            Call::Plug(slot, size) => self.plug(slot, size),
-            Call::Pull(slot) => self.pull(slot),
-            Call::End(slot, connection) => self.end(slot, connection),
+            Call::Clock(time) => done(self.host.clock(time)),
+            Call::Plug(slot, size) => done(self.host.plug(slot, size)),
+            Call::Pull(slot) => done(self.host.pull(slot)),
+            Call::End(slot, connection) => done(self.host.end(slot, connection)),
             Call::Next(slot, connection) => self.next(slot, connection, out),
             Call::Feed(slot, connection) => self.feed(slot, connection, lpdu),
             Call::Expire(slot, connection) => self.expire(slot, connection),
         }
-    }
-
-    fn clock(&mut self, time: [u8; 5]) -> Result<Answer, Refusal>
-        requires { Tied self.old }
-        ensures played { (out : List ℕ) → Played R.Resource.meaning (clocked time) (answered result out) self.old.host self.new.host }
-        ensures tied { Tied self.new }
-    {
-        done(self.host.clock(time))
-    }
-
-    fn plug(&mut self, slot: u8, size: u16) -> Result<Answer, Refusal>
-        requires { Tied self.old }
-        ensures played { (out : List ℕ) → Played R.Resource.meaning (named slot (plugs size)) (answered result out) self.old.host self.new.host }
-        ensures tied { Tied self.new }
-    {
-        done(self.host.plug(slot, size))
-    }
-
-    fn pull(&mut self, slot: u8) -> Result<Answer, Refusal>
-        requires { Tied self.old }
-        ensures played { (out : List ℕ) → Played R.Resource.meaning (named slot pulls) (answered result out) self.old.host self.new.host }
-        ensures tied { Tied self.new }
-    {
-        done(self.host.pull(slot))
-    }
-
-    fn end(&mut self, slot: u8, connection: u8) -> Result<Answer, Refusal>
-        requires { Tied self.old }
-        ensures played { (out : List ℕ) → Played R.Resource.meaning (named slot (ends connection)) (answered result out) self.old.host self.new.host }
-        ensures tied { Tied self.new }
-    {
-        done(self.host.end(slot, connection))
     }
 
     // A turn is held, where none is held for its slot and connection.

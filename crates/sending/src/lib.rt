@@ -50,7 +50,7 @@ pub struct Sent {
     pub turn: Option<ConnectionId>,
 }
 
-// The most bytes of a command's session unit, and of a command.
+// The most bytes of a command's session unit, and of a command. Their writers take a slice, which an ArrayVec gives no sooner than an array.
 const SPDU: usize = 128;
 
 const TPDU: usize = 132;
@@ -58,88 +58,57 @@ const TPDU: usize = 132;
 // The error code of a T_C_Error: there is no connection to be had.
 const NO_CONNECTION: u8 = 1;
 
-// Writes a session unit.
-fn put_reply(reply: Reply<&[u8]>, spdu: &mut [u8]) -> usize
-    requires { length (reply_bytes (map_reply (λ x. x.now) reply)) ≤ length spdu.old }
-    ensures bytes { take result spdu.new ≡ reply_bytes (map_reply (λ x. x.now) reply.entry) }
-    ensures within { result ≤ length spdu.new }
-{
-    match write_reply(reply, spdu) {
-        Ok(n) => n,
-        Err(_) => 0,
-    }
-}
-
-// Writes a command.
-fn put_command(c: ConnectionId, command: Command<&[u8]>, tpdu: &mut [u8]) -> usize
-    requires short { length (command_bytes c.number (map_command (λ x. x.now) command)) ≤ 132 }
-    requires room { 132 ≤ length tpdu.old }
-    ensures bytes { take result tpdu.new ≡ command_bytes c.number (map_command (λ x. x.now) command.entry) }
-    ensures within { result ≤ length tpdu.new }
-{
-    match write_command(c.get(), command, tpdu) {
-        Ok(n) => n,
-        Err(_) => 0,
-    }
-}
-
-// Writes a command as link units, if there is room.
-fn send(c: ConnectionId, size: AgreedSize, command: Command<&[u8]>, out: &mut [u8]) -> Option<usize>
-    requires { length (command_bytes c.number (map_command (λ x. x.now) command)) ≤ 132 }
-    ensures { fitting (lpdus_written c.number size.bytes (command_bytes c.number (map_command (λ x. x.now) command.entry))) out.old ≡ (result, out.new) }
-{
-    let mut tpdu = [0; TPDU];
-    let n = put_command(c, command, &mut tpdu);
-    match write_lpdus(c.get(), size.get(), &tpdu[..n], out) {
-        Ok(length) => Some(length),
-        Err(_) => None,
-    }
-}
-
-// Writes a session unit in one command.
-fn send_reply(
+// Where LPDUs go: a connection, and the agreed size.
+#[derive(Clone, Copy)]
+struct Link {
     c: ConnectionId,
     size: AgreedSize,
-    reply: Reply<&[u8]>,
-    out: &mut [u8],
-) -> Option<usize>
-    requires { length (reply_bytes (map_reply (λ x. x.now) reply)) ≤ 128 }
-    ensures { fitting (lpdus_written c.number size.bytes (command_bytes c.number (Data (reply_bytes (map_reply (λ x. x.now) reply.entry))))) out.old ≡ (result, out.new) }
-{
-    let mut spdu = [0; SPDU];
-    let n = put_reply(reply, &mut spdu);
-    let command = Command::Data(&spdu[..n]);
-    send(c, size, command, out)
 }
 
-fn opened<'a>(status: u8, identifier: u32, number: u16) -> Reply<&'a [u8]>
-    ensures { map_reply (λ x. x.now) result ≡ Opened status identifier number }
-{
-    Reply::Opened(status, identifier, number)
+impl Link {
+    // Writes a command as link units, if there is room.
+    fn send(self, command: Command<&[u8]>, out: &mut [u8]) -> Option<usize>
+        requires { length (command_bytes self.c.number (map_command (λ x. x.now) command)) ≤ 132 }
+        ensures { fitting (lpdus_written self.c.number self.size.bytes (command_bytes self.c.number (map_command (λ x. x.now) command.entry))) out.old ≡ (result, out.new) }
+    {
+        let id = self.c.get();
+        let mut tpdu = [0; TPDU];
+        let n = write_command(id, command, &mut tpdu).unwrap_or(0);
+        write_lpdus(id, self.size.get(), &tpdu[..n], out).ok()
+    }
+
+    // Writes what is said in a session, as a session unit in one command.
+    fn say(self, reply: Reply<Piece>, out: &mut [u8]) -> Option<usize>
+        ensures { fitting (lpdus_written self.c.number self.size.bytes (command_bytes self.c.number (Data (reply_bytes (map_reply sent reply))))) out.old ≡ (result, out.new) }
+    {
+        let mut spdu = [0; SPDU];
+        let n = write_reply(in_bytes(&reply), &mut spdu).unwrap_or(0);
+        self.send(Command::Data(&spdu[..n]), out)
+    }
+
+    // Writes the command that is due, if there is room.
+    fn write(self, due: Due, out: &mut [u8]) -> Option<usize>
+        ensures { fitting (lpdus self.c.number self.size.bytes due) out.old ≡ (result, out.new) }
+    {
+        match due {
+            Due::Say(reply) => self.say(reply, out),
+            Due::Greet(n, _, piece) => self.say(Reply::Data(n.get() as u16, piece), out),
+            _ => self.send(plain(due, self.c), out),
+        }
+    }
 }
 
-fn closed<'a>(status: u8, number: u16) -> Reply<&'a [u8]>
-    ensures { map_reply (λ x. x.now) result ≡ Closed status number }
-{
-    Reply::Closed(status, number)
-}
-
-// Writes what is said in a session.
-fn say(c: ConnectionId, size: AgreedSize, reply: Reply<Piece>, out: &mut [u8]) -> Option<usize>
-    ensures { fitting (lpdus_written c.number size.bytes (command_bytes c.number (Data (reply_bytes (map_reply sent reply))))) out.old ≡ (result, out.new) }
+// What is said in a session, with the bytes of its piece.
+fn in_bytes(reply: &Reply<Piece>) -> Reply<&[u8]>
+    ensures value { map_reply (λ x. x.now) result ≡ map_reply sent reply.now }
+    ensures short { length (reply_bytes (map_reply sent reply.now)) ≤ 128 }
 {
     match reply {
-        Reply::Opened(status, identifier, number) => send_reply(
-            c,
-            size,
-            opened(status, identifier, number),
-            out,
-        ),
-        Reply::Closed(status, number) => send_reply(c, size, closed(status, number), out),
-        Reply::Data(number, piece) => {
-            let reply = Reply::Data(number, piece.bytes());
-            send_reply(c, size, reply, out)
+        Reply::Opened(status, identifier, number) => {
+            Reply::Opened(*status, *identifier, *number)
         }
+        Reply::Closed(status, number) => Reply::Closed(*status, *number),
+        Reply::Data(number, piece) => Reply::Data(*number, piece.bytes()),
     }
 }
 
@@ -158,17 +127,6 @@ fn plain<'a>(due: Due, c: ConnectionId) -> Command<&'a [u8]>
     }
 }
 
-// Writes the command that is due, if there is room.
-fn write(due: Due, c: ConnectionId, size: AgreedSize, out: &mut [u8]) -> Option<usize>
-    ensures { fitting (lpdus c.number size.bytes due) out.old ≡ (result, out.new) }
-{
-    match due {
-        Due::Say(reply) => say(c, size, reply, out),
-        Due::Greet(n, _, piece) => say(c, size, Reply::Data(n.get() as u16, piece), out),
-        _ => send(c, size, plain(due, c), out),
-    }
-}
-
 // The connection whose turn is handed out.
 fn turn(due: Due, c: ConnectionId) -> Option<ConnectionId>
     ensures handed { is_some result ≡ turn_due due }
@@ -180,124 +138,124 @@ fn turn(due: Due, c: ConnectionId) -> Option<ConnectionId>
     }
 }
 
-fn poll<R: Resource>(slot: &Record, resource: &R, at: u8, c: ConnectionId) -> Due
-    ensures { due_of c.number result (stand_at R.Resource.meaning at slot.now resource.now) ≡ polling R.Resource.meaning (R.Resource.meaning.made resource.now) at c.number (stand_at R.Resource.meaning at slot.now resource.now) }
-{
-    if slot.connection(c).is_available() {
-        Due::Receive
-    } else {
-        Due::Poll
-    }
-}
+impl From<Owed<Piece>> for Due {
+    ghost from_gives = { λ owed due. due ≡ owed_due owed };
 
-// The due greeting of the lowest number, or else a poll.
-fn greet<R: Resource>(slot: &Record, resource: &R, at: u8, c: ConnectionId) -> Due
-    ensures { due_of c.number result (stand_at R.Resource.meaning at slot.now resource.now) ≡ greeting_due R.Resource.meaning (R.Resource.meaning.made resource.now) at c.number (first (λ n. greets c.number ((slot_of slot.now).rows n)) numbers) (stand_at R.Resource.meaning at slot.now resource.now) }
-{
-    let Some(n) = slot.first_greeting(c) else {
-        return poll(slot, resource, at, c);
-    };
-    let Some(row) = slot.row(n) else {
-        return poll(slot, resource, at, c);
-    };
-    match resource.greeting(row.identifier) {
-        Some(piece) => Due::Greet(n, row, piece),
-        None => poll(slot, resource, at, c),
-    }
-}
-
-// The command that is due, by the connection's state.
-fn choose<R: Resource>(slot: &Record, resource: &R, at: u8, c: ConnectionId) -> Result<Due, Refusal>
-    ensures { due_or c.number result (stand_at R.Resource.meaning at slot.now resource.now) ≡ due_by R.Resource.meaning (R.Resource.meaning.made resource.now) at c.number ((slot_of slot.now).conn c.number).state (stand_at R.Resource.meaning at slot.now resource.now) }
-{
-    match slot.connection(c).state() {
-        State::CreateDue => Ok(Due::Create),
-        State::DeleteDue => Ok(Due::Delete),
-        State::ReplyDue => Ok(Due::DeleteReply),
-        State::Active => match slot.connection(c).owed() {
-            Some(owed) => Ok(owes(owed)),
-            None => Ok(greet(slot, resource, at, c)),
-        },
-        _ => Err(Refusal::State),
-    }
-}
-
-fn owes(owed: Owed<Piece>) -> Due
-    ensures { result ≡ owed_due owed }
-{
-    match owed {
-        Owed::NewConnection => Due::NewConnection,
-        Owed::NoConnection => Due::NoConnection,
-        Owed::Say(reply) => Due::Say(reply),
-    }
-}
-
-// What is written is owed or due no more.
-fn spend<R: Resource>(slot: &mut Record, resource: &R, at: u8, c: ConnectionId, due: Due)
-    ensures { stand_at R.Resource.meaning at slot.new resource.now ≡ left_due c.number due (stand_at R.Resource.meaning at slot.old resource.now) }
-{
-    match due {
-        Due::Create => slot.send(c, State::Creating),
-        Due::Delete => slot.send(c, State::Deleting),
-        Due::DeleteReply => slot.bare(c, State::Idle, false),
-        Due::NewConnection => {
-            slot.send(c, State::Active);
-            let mark = slot.connection(c.other()).is_out();
-            slot.bare(c.other(), State::CreateDue, mark);
+    fn from(owed: Owed<Piece>) -> Due {
+        match owed {
+            Owed::NewConnection => Due::NewConnection,
+            Owed::NoConnection => Due::NoConnection,
+            Owed::Say(reply) => Due::Say(reply),
         }
-        Due::Greet(n, row, _) => {
-            let greeted = Row { due: false, ..row };
-            slot.set_row(n, Some(greeted));
-            slot.send(c, State::Active);
-        }
-        Due::NoConnection | Due::Say(_) | Due::Receive | Due::Poll => slot.send(c, State::Active),
     }
 }
 
-// The command that is due is written, if there is room, and spent.
-fn write_due<R: Resource>(
-    slot: &mut Record,
-    resource: &R,
+// A connection of a slot: the slot's record and number, and the resource.
+#[derive(Drop)]
+struct Place<'a, R> {
+    record: &'a mut Record,
+    resource: &'a R,
     at: u8,
     c: ConnectionId,
-    size: AgreedSize,
-    due: Due,
-    out: &mut [u8],
-) -> Result<Sent, Refusal>
-    ensures did { Serves R.Resource.meaning at (λ made k st. write_in R.Resource.meaning made k (length out.old) (lpdus c.number size.bytes due) (due_of c.number due st)) (sent_of result out.new) slot.old resource.now slot.new resource.now }
-    ensures bytes { out.new ≡ written (sent_of result out.new) out.old }
-    ensures whose { Whose c.number result }
-{
-    let Some(length) = write(due, c, size, out) else {
-        return Err(Refusal::Room);
-    };
-    spend(slot, resource, at, c, due);
-    Ok(Sent {
-        length,
-        turn: turn(due, c),
-    })
 }
 
-// The same on a connection that exists.
-fn next_on<R: Resource>(
-    slot: &mut Record,
-    resource: &R,
-    at: u8,
-    c: ConnectionId,
-    out: &mut [u8],
-) -> Result<Sent, Refusal>
-    ensures did { Did R.Resource.meaning at (nexts c.number (length out.old)) (sent_of result out.new) slot.old resource.now slot.new resource.now }
-    ensures bytes { out.new ≡ written (sent_of result out.new) out.old }
-    ensures whose { Whose c.number result }
-{
-    let Some(size) = slot.agreed() else {
-        return Err(Refusal::Presence);
-    };
-    if slot.connection(c).is_out() {
-        return Err(Refusal::Turn);
+impl<'a, R: Resource> Place<'a, R> {
+    fn poll(&self) -> Due
+        ensures { due_of self.now.c.number result (stand_at R.Resource.meaning self.now.at self.now.record.now self.now.resource.now) ≡ polling R.Resource.meaning (R.Resource.meaning.made self.now.resource.now) self.now.at self.now.c.number (stand_at R.Resource.meaning self.now.at self.now.record.now self.now.resource.now) }
+    {
+        if self.record.connection(self.c).is_available() {
+            Due::Receive
+        } else {
+            Due::Poll
+        }
     }
-    let due = choose(slot, resource, at, c)?;
-    write_due(slot, resource, at, c, size, due, out)
+
+    // The due greeting of the lowest number, or else a poll.
+    fn greet(&self) -> Due
+        ensures { due_of self.now.c.number result (stand_at R.Resource.meaning self.now.at self.now.record.now self.now.resource.now) ≡ greeting_due R.Resource.meaning (R.Resource.meaning.made self.now.resource.now) self.now.at self.now.c.number (first (λ n. greets self.now.c.number ((slot_of self.now.record.now).rows n)) numbers) (stand_at R.Resource.meaning self.now.at self.now.record.now self.now.resource.now) }
+    {
+        if let Some(n) = self.record.first_greeting(self.c)
+            && let Some(row) = self.record.row(n)
+            && let Some(piece) = self.resource.greeting(row.identifier)
+        {
+            Due::Greet(n, row, piece)
+        } else {
+            self.poll()
+        }
+    }
+
+    // The command that is due, by the connection's state.
+    fn choose(&self) -> Result<Due, Refusal>
+        ensures { due_or self.now.c.number result (stand_at R.Resource.meaning self.now.at self.now.record.now self.now.resource.now) ≡ due_by R.Resource.meaning (R.Resource.meaning.made self.now.resource.now) self.now.at self.now.c.number ((slot_of self.now.record.now).conn self.now.c.number).state (stand_at R.Resource.meaning self.now.at self.now.record.now self.now.resource.now) }
+    {
+        match self.record.connection(self.c).state() {
+            State::CreateDue => Ok(Due::Create),
+            State::DeleteDue => Ok(Due::Delete),
+            State::ReplyDue => Ok(Due::DeleteReply),
+            // With `map_or_else` in place of this match the proof does not close.
+            State::Active => Ok(match self.record.connection(self.c).owed() {
+                Some(owed) => owed.into(),
+                None => self.greet(),
+            }),
+            _ => Err(Refusal::State),
+        }
+    }
+
+    // What is written is owed or due no more.
+    fn spend(&mut self, due: Due)
+        ensures same_reference { self.new.record.ghost_name ≡ self.old.record.ghost_name }
+        ensures left { stand_at R.Resource.meaning self.old.at self.new.record.now self.old.resource.now ≡ left_due self.old.c.number due (stand_at R.Resource.meaning self.old.at self.old.record.now self.old.resource.now) }
+    {
+        let c = self.c;
+        match due {
+            Due::Create => self.record.send(c, State::Creating),
+            Due::Delete => self.record.send(c, State::Deleting),
+            Due::DeleteReply => self.record.bare(c, State::Idle, false),
+            Due::NewConnection => {
+                self.record.send(c, State::Active);
+                let mark = self.record.connection(c.other()).is_out();
+                self.record.bare(c.other(), State::CreateDue, mark);
+            }
+            Due::Greet(n, row, _) => {
+                let greeted = Row { due: false, ..row };
+                self.record.set_row(n, Some(greeted));
+                self.record.send(c, State::Active);
+            }
+            Due::NoConnection | Due::Say(_) | Due::Receive | Due::Poll => {
+                self.record.send(c, State::Active)
+            }
+        }
+    }
+
+    // The command that is due is written, if there is room, and spent.
+    fn write(&mut self, size: AgreedSize, due: Due, out: &mut [u8]) -> Result<Sent, Refusal>
+        ensures same_reference { self.new.record.ghost_name ≡ self.old.record.ghost_name }
+        ensures did { Serves R.Resource.meaning self.old.at (λ made k st. write_in R.Resource.meaning made k (length out.old) (lpdus self.old.c.number size.bytes due) (due_of self.old.c.number due st)) (sent_of result out.new) self.old.record.now self.old.resource.now self.new.record.now self.old.resource.now }
+        ensures bytes { out.new ≡ written (sent_of result out.new) out.old }
+        ensures whose { Whose self.old.c.number result }
+    {
+        let c = self.c;
+        let length = Link { c, size }.write(due, out).ok_or(Refusal::Room)?;
+        self.spend(due);
+        Ok(Sent {
+            length,
+            turn: turn(due, c),
+        })
+    }
+
+    fn next(&mut self, out: &mut [u8]) -> Result<Sent, Refusal>
+        ensures same_reference { self.new.record.ghost_name ≡ self.old.record.ghost_name }
+        ensures did { Did R.Resource.meaning self.old.at (nexts self.old.c.number (length out.old)) (sent_of result out.new) self.old.record.now self.old.resource.now self.new.record.now self.old.resource.now }
+        ensures bytes { out.new ≡ written (sent_of result out.new) out.old }
+        ensures whose { Whose self.old.c.number result }
+    {
+        let size = self.record.agreed().ok_or(Refusal::Presence)?;
+        if self.record.connection(self.c).is_out() {
+            return Err(Refusal::Turn);
+        }
+        let due = self.choose()?;
+        self.write(size, due, out)
+    }
 }
 
 // Writes the command that is due as link units, all but the last of the agreed size.
@@ -312,8 +270,12 @@ pub fn next<R: Resource>(
     ensures bytes { out.new ≡ written (sent_of result out.new) out.old }
     ensures whose { Whose connection result }
 {
-    match ConnectionId::new(connection) {
-        Some(c) => next_on(slot, resource, at, c, out),
-        None => Err(Refusal::Connection),
+    let c = ConnectionId::new(connection).ok_or(Refusal::Connection)?;
+    Place {
+        record: slot,
+        resource,
+        at,
+        c,
     }
+    .next(out)
 }

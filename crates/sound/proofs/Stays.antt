@@ -1,13 +1,16 @@
 -- Every call leaves a sound record sound.
-use Rattle.std.proofs.Common.{◌≡◌, ℕ, ◌<◌, sym, subst, arith}
+use Rattle.std.proofs.Common.{◌≡◌, ℕ, ◌<◌, Result, sym, subst, arith}
 use mathlib.Core.Logic.{∥∥₁_map}
 use Rattle.std.proofs.lemmas.Bool.{le-leb}
+use Rattle.refusal.specs.declared.Refusal.{Refusal}
 use Rattle.resource.specs.Meaning.{Meaning}
 use Rattle.resource.specs.Lawful.{Lawful}
 use Rattle.protocol.specs.Sound.{Sound}
-use Rattle.protocol.specs.Calls.{Act, Stand, act}
-use Rattle.protocol.specs.Runs.{stand_of}
+use Rattle.protocol.specs.Calls.{Act, Answer}
 use Rattle.protocol.proofs.Acts.{act_sound}
+use Rattle.record.specs.declared.slots.Record.{Record}
+use Rattle.record.specs.Records.{slot_of}
+use Rattle.slot.specs.Stand.{stand_at, Did}
 
-pub stays : {S : Type 0} (M : Meaning S) (law : Lawful M) (made : M.Made) (at : ℕ) (a : Act) (st st' : Stand M.Share) → at < 4 → st' ≡ stand_of st (act M made at a st) → ∥ Sound st.slot ∥₁ → ∥ Sound st'.slot ∥₁
-stays M law made at a st st' lt e k = ∥∥₁_map k (λ s. subst (λ z. Sound z.slot) (sym e) (act_sound M made at law a st (le-leb at 3 (omega arith)) s))
+pub stays : {S : Type 0} {M : Meaning S} {r : Result Answer Refusal} {b b' : Record} {s s' : S} (law : Lawful M) (at : ℕ) (a : Act) → at < 4 → Did M at a r b s b' s' → ∥ Sound (slot_of b) ∥₁ → ∥ Sound (slot_of b') ∥₁
+stays {M = M} {b = b} {s = s} law at a lt d k = ∥∥₁_map k (λ sound. subst (λ z. Sound z.slot) (sym d.after) (act_sound M (M.made s) at law a (stand_at M at b s) (le-leb at 3 (omega arith)) sound))

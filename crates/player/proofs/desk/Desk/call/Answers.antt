@@ -1,17 +1,57 @@
-use Rattle.player.proofs.Turns.{nothing_written}
+use Rattle.std.proofs.Common.{refl}
+use Rattle.protocol.specs.Calls.{plug, pull, end}
+use Rattle.protocol.specs.Runs.{clock, at}
+use Rattle.slot.specs.Stand.{plainly}
+use Rattle.player.proofs.Turns.{nothing_written, plays, keeps, still, clock_marks}
 use Rattle.player.proofs.desk.Desk.call.Goals as goal
 
 pub returns-in-Clock : goal.returns-in-Clock
-returns-in-Clock g c = rw c.in-Clock.is (record { played = c.clock.ensures.played c.args.out.now; bytes = nothing_written c.clock.result c.args.out.now; tied = c.clock.ensures.tied })
+returns-in-Clock g c =
+    let M = g.R.Resource.meaning in
+    let law = g.R.Resource.laws in
+    let d = c.args.self.now in
+    let h' = c.clock.new.self in
+    rw c.in-Clock.is (record {
+      played = plays M law (clock c.in-Clock.time) (plainly c.clock.result) _ d.host h' (c.done.ensures c.args.out.now) refl c.clock.ensures;
+      bytes = nothing_written c.done.result c.args.out.now;
+      tied = keeps M law d (record { host = h'; hand = d.hand }) refl (clock_marks M law d.host h' c.in-Clock.time (plainly c.clock.result) c.clock.ensures) c.requires;
+    })
 
 pub returns-in-Plug : goal.returns-in-Plug
-returns-in-Plug g c = rw c.in-Plug.is (record { played = c.plug.ensures.played c.args.out.now; bytes = nothing_written c.plug.result c.args.out.now; tied = c.plug.ensures.tied })
+returns-in-Plug g c =
+    let M = g.R.Resource.meaning in
+    let law = g.R.Resource.laws in
+    let d = c.args.self.now in
+    let h' = c.plug.new.self in
+    rw c.in-Plug.is (record {
+      played = plays M law (at c.in-Plug.slot (plug c.in-Plug.size)) (plainly c.plug.result) _ d.host h' (c.done-in-Plug.ensures c.args.out.now) refl c.plug.ensures;
+      bytes = nothing_written c.done-in-Plug.result c.args.out.now;
+      tied = still M law d (record { host = h'; hand = d.hand }) c.in-Plug.slot (plug c.in-Plug.size) (plainly c.plug.result) refl (λ k o. refl) c.plug.ensures c.requires;
+    })
 
 pub returns-in-Pull : goal.returns-in-Pull
-returns-in-Pull g c = rw c.in-Pull.is (record { played = c.pull.ensures.played c.args.out.now; bytes = nothing_written c.pull.result c.args.out.now; tied = c.pull.ensures.tied })
+returns-in-Pull g c =
+    let M = g.R.Resource.meaning in
+    let law = g.R.Resource.laws in
+    let d = c.args.self.now in
+    let h' = c.pull.new.self in
+    rw c.in-Pull.is (record {
+      played = plays M law (at c.in-Pull.slot pull) (plainly c.pull.result) _ d.host h' (c.done-in-Pull.ensures c.args.out.now) refl c.pull.ensures;
+      bytes = nothing_written c.done-in-Pull.result c.args.out.now;
+      tied = still M law d (record { host = h'; hand = d.hand }) c.in-Pull.slot pull (plainly c.pull.result) refl (λ k o. refl) c.pull.ensures c.requires;
+    })
 
 pub returns-in-End : goal.returns-in-End
-returns-in-End g c = rw c.in-End.is (record { played = c.end.ensures.played c.args.out.now; bytes = nothing_written c.end.result c.args.out.now; tied = c.end.ensures.tied })
+returns-in-End g c =
+    let M = g.R.Resource.meaning in
+    let law = g.R.Resource.laws in
+    let d = c.args.self.now in
+    let h' = c.end.new.self in
+    rw c.in-End.is (record {
+      played = plays M law (at c.in-End.slot (end c.in-End.connection)) (plainly c.end.result) _ d.host h' (c.done-in-End.ensures c.args.out.now) refl c.end.ensures;
+      bytes = nothing_written c.done-in-End.result c.args.out.now;
+      tied = still M law d (record { host = h'; hand = d.hand }) c.in-End.slot (end c.in-End.connection) (plainly c.end.result) refl (λ k o. refl) c.end.ensures c.requires;
+    })
 
 pub returns-in-Feed : goal.returns-in-Feed
 returns-in-Feed g c = rw c.in-Feed.is (record { played = c.feed.ensures.played c.args.out.now; bytes = nothing_written c.feed.result c.args.out.now; tied = c.feed.ensures.tied })
