@@ -26,9 +26,7 @@ impl<const LOW: u8, const HIGH: u8> Within<LOW, HIGH> {
 
     // The number itself.
     pub fn get(self) -> u8
-        ensures value { result ≡ self.entry.number }
-        ensures low { LOW ≤ result }
-        ensures high { result ≤ HIGH }
+        ensures { result ≡ self.entry.number }
     {
         self.number
     }
