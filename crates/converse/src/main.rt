@@ -1,7 +1,7 @@
 // Holds one conversation with Resource Manager, Application Information and Date-Time as one resource, and prints it.
 #![tactic(auto)]
 
-use account::hex;
+use account::HexByte;
 use apdu::{
     APPLICATION_INFO, Apdu, DATE_TIME_ENQUIRY, PROFILE_CHANGED, PROFILE_ENQUIRY, PROFILE_REPLY,
 };
@@ -17,8 +17,7 @@ const DATE_TIME: u32 = 0x00240041;
 
 fn bytes(rt: &HostRuntime, bytes: &[u8]) -> io::Result<()> {
     for byte in bytes {
-        let [high, low] = hex(*byte);
-        print!(rt; " {high}{low}")?;
+        print!(rt; " {}", HexByte(*byte))?;
     }
     println!(rt; "")
 }
@@ -30,8 +29,8 @@ fn open<R: Resource>(
     identifier: u32,
     number: u8,
 ) -> io::Result<()> {
-    let [high, low] = hex(resource.ready(0, identifier).into());
-    print!(rt; "session {number}: ready {high}{low}, greeting")?;
+    let status = HexByte(resource.ready(0, identifier).into());
+    print!(rt; "session {number}: ready {status}, greeting")?;
     resource.opened(0, identifier, number);
     match resource.greeting(identifier) {
         Some(piece) => bytes(rt, piece.bytes()),
@@ -110,9 +109,9 @@ fn converse<R: Resource>(rt: &HostRuntime, resource: &mut R) -> io::Result<()> {
             body: &[0],
         },
     )?;
-    let [high, low] = hex(resource.ready(0, DATE_TIME).into());
+    let status = HexByte(resource.ready(0, DATE_TIME).into());
     println!(rt;
-        "{} sessions are held, and one more is answered {high}{low}",
+        "{} sessions are held, and one more is answered {status}",
         resource.count(0)
     )
 }

@@ -7,6 +7,7 @@ ghost use Rattle.marks.specs.Marked.{marked};
 
 use number::SessionNumber;
 
+// One place for each number: all are in use, so there is no length beside.
 #[derive(Clone, Copy)]
 pub struct Marks {
     places: [bool; 16],
