@@ -1,2 +1,3 @@
 pub mod Inside
 pub mod ReadingBack
+pub mod Worked

@@ -32,6 +32,7 @@ pub fn bodies_lie_within()
     ensures { BodiesLieWithin }
 {}
 
+#[tactic(auto, using(crate::proofs::Worked::worked))]
 pub fn worked_lengths()
     ensures { WorkedLengths }
 {}
