@@ -327,7 +327,7 @@ module _ {S : Type 0} (M : Meaning S) (law : Lawful M) where
   free_turn d t i c p q in' k = (λ j. turn_at d.hand.turns (p j) (q j)) ∙ go (turn_at d.hand.turns i c) refl
     where
       small : i < 4
-      small = subst (λ n. n < 4) p t.slot.below
+      small = let upto : i ≤ 3 = subst (λ n. n ≤ 3) p t.slot.high in omega arith
 
       low : 1 ≤ c
       low = subst (λ n. 1 ≤ n) q t.connection.low
