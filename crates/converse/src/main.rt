@@ -54,65 +54,47 @@ fn say<R: Resource>(
     }
 }
 
+// What comes from the module, or from the clock.
+#[derive(Clone, Copy)]
+enum Step<'a> {
+    Open(u32, u8),
+    Say(u32, u8, Apdu<&'a [u8]>),
+    Clock([u8; 5]),
+}
+
+// An object of the module in a session.
+fn said(identifier: u32, number: u8, tag: u32, body: &[u8]) -> Step<'_> {
+    Step::Say(identifier, number, Apdu { tag, body })
+}
+
 fn converse<R: Resource>(rt: &HostRuntime, resource: &mut R) -> io::Result<()> {
-    open(rt, resource, MANAGER, 1)?;
-    say(
-        rt,
-        resource,
-        MANAGER,
-        1,
-        Apdu {
-            tag: PROFILE_REPLY,
-            body: &[],
-        },
-    )?;
-    say(
-        rt,
-        resource,
-        MANAGER,
-        1,
-        Apdu {
-            tag: PROFILE_ENQUIRY,
-            body: &[],
-        },
-    )?;
-    say(
-        rt,
-        resource,
-        MANAGER,
-        1,
-        Apdu {
-            tag: PROFILE_CHANGED,
-            body: &[0],
-        },
-    )?;
-    open(rt, resource, INFORMATION, 2)?;
-    say(
-        rt,
-        resource,
-        INFORMATION,
-        2,
-        Apdu {
-            tag: APPLICATION_INFO,
-            body: &[1, 2, 3, 4, 5, 2, 0x48, 0x69],
-        },
-    )?;
-    open(rt, resource, DATE_TIME, 3)?;
-    resource.clock([0xE6, 0x3C, 0x12, 0x30, 0x00]);
-    say(
-        rt,
-        resource,
-        DATE_TIME,
-        3,
-        Apdu {
-            tag: DATE_TIME_ENQUIRY,
-            body: &[0],
-        },
-    )?;
-    let status = HexByte(resource.ready(0, DATE_TIME).into());
+    let steps = [
+        Step::Open(MANAGER, 1),
+        said(MANAGER, 1, PROFILE_REPLY, &[]),
+        said(MANAGER, 1, PROFILE_ENQUIRY, &[]),
+        said(MANAGER, 1, PROFILE_CHANGED, &[0]),
+        Step::Open(INFORMATION, 2),
+        said(
+            INFORMATION,
+            2,
+            APPLICATION_INFO,
+            &[1, 2, 3, 4, 5, 2, 0x48, 0x69],
+        ),
+        Step::Open(DATE_TIME, 3),
+        Step::Clock([0xE6, 0x3C, 0x12, 0x30, 0x00]),
+        said(DATE_TIME, 3, DATE_TIME_ENQUIRY, &[0]),
+    ];
+    for step in steps {
+        match step {
+            Step::Open(identifier, number) => open(rt, resource, identifier, number)?,
+            Step::Say(identifier, number, apdu) => say(rt, resource, identifier, number, apdu)?,
+            Step::Clock(now) => resource.clock(now),
+        }
+    }
     println!(rt;
-        "{} sessions are held, and one more is answered {status}",
-        resource.count(0)
+        "{} sessions are held, and one more is answered {}",
+        resource.count(0),
+        HexByte(resource.ready(0, DATE_TIME).into())
     )
 }
 

@@ -6,10 +6,10 @@ ghost use Rattle.std.specs.Prelude.{◌≤◌};
 use cursor::Part;
 use joiner::Kept;
 use lpdu::{Fragment, LpduReader};
-use recording::{Direction, LONGEST, Line, Reason, parse};
+use recording::{Direction, LONGEST, Line, LineError, parse};
 use std::alloc::{AllocError, Global};
 use std::io::{BufReader, Read};
-use std::{env, io};
+use std::{array, env, io};
 
 mod show;
 
@@ -18,78 +18,113 @@ const FRAGMENTS: usize = 1024;
 
 const CHAINED: usize = 2048;
 
-// What is known at a line: the slot, and what is kept by slot, direction and connection, of chained data by slot and connection.
+// Where an LPDU goes: the slot, who sent it, and the connection.
+#[derive(Clone, Copy)]
+pub(crate) struct Way {
+    slot: u8,
+    sender: Direction,
+    connection: u8,
+}
+
+// What is kept on a connection: a TPDU of each sender in fragments, and an SPDU of the module in several TPDUs.
+#[derive(Drop)]
+struct Pending {
+    host: Kept,
+    module: Kept,
+    chain: Kept,
+}
+
+// What is known at a line: the slot, and what is kept by slot and connection.
 #[derive(Drop)]
 struct Decoder {
     slot: u8,
     line: u64,
     bytes: Vec<u8>,
-    fragments: Vec<Kept>,
-    chains: Vec<Kept>,
+    slots: [[Pending; 2]; 4],
 }
 
-fn kept(heap: Global, count: usize, limit: usize) -> Result<Vec<Kept>, AllocError> {
-    let mut all = Vec::new(heap);
-    for _ in 0..count {
-        all.push(Kept::new(heap, limit))?;
+impl Pending {
+    fn new(heap: Global) -> Pending {
+        Pending {
+            host: Kept::new(heap, FRAGMENTS),
+            module: Kept::new(heap, FRAGMENTS),
+            chain: Kept::new(heap, CHAINED),
+        }
     }
-    Ok(all)
+
+    fn join(&mut self, rt: &HostRuntime, way: Way, fragment: Fragment<Part<'_>>) -> io::Result<()> {
+        let Pending {
+            host,
+            module,
+            chain,
+        } = self;
+        match way.sender {
+            Direction::FromHost => join(rt, way, fragment, host, chain),
+            Direction::FromModule => join(rt, way, fragment, module, chain),
+        }
+    }
 }
 
-fn why(reason: Reason) -> &'static str {
-    match reason {
-        Reason::Long => "longer than 8192 bytes",
-        Reason::Word => "begins with none of >, <, slot and #",
-        Reason::Slot => "the slot is not a digit from 0 to 3",
-        Reason::Hex => "bytes are two hexadecimal digits each, with blanks between them",
+// Joins a fragment to those before it. A whole TPDU is told.
+fn join(
+    rt: &HostRuntime,
+    way: Way,
+    fragment: Fragment<Part<'_>>,
+    kept: &mut Kept,
+    chain: &mut Kept,
+) -> io::Result<()> {
+    let told = match kept.add(fragment.bytes.bytes) {
+        Ok(()) if fragment.more => Ok(()),
+        Ok(()) => show::tpdu(rt, way, kept.bytes(), chain),
+        Err(refusal) => show::refused(rt, refusal, "TPDU", FRAGMENTS),
+    };
+    if !fragment.more {
+        kept.clear();
     }
+    told
 }
 
 impl Decoder {
-    fn new(heap: Global) -> Result<Decoder, AllocError> {
-        Ok(Decoder {
+    fn new(heap: Global) -> Decoder {
+        Decoder {
             slot: 0,
             line: 0,
             bytes: Vec::new(heap),
-            fragments: kept(heap, 16, FRAGMENTS)?,
-            chains: kept(heap, 8, CHAINED)?,
-        })
+            slots: array::from_fn(|_| array::from_fn(|_| Pending::new(heap))),
+        }
     }
 
     fn line(&mut self, rt: &HostRuntime, line: &[u8]) -> io::Result<()> {
         self.line = self.line.saturating_add(1);
-        let text = match line {
-            [text @ .., b'\r'] => text,
-            _ => line,
-        };
-        match parse(text, &mut self.bytes)? {
-            Line::Blank => Ok(()),
-            Line::Slot(slot) => {
+        match parse(line.strip_suffix(b"\r").unwrap_or(line), &mut self.bytes) {
+            Ok(Line::Blank) => Ok(()),
+            Ok(Line::Slot(slot)) => {
                 self.slot = slot;
                 Ok(())
             }
-            Line::Lpdu(direction) => self.lpdu(rt, direction),
-            Line::Bad(reason) => {
-                let number = self.line;
-                println!(rt; "line {number}: {}", why(reason))
-            }
+            Ok(Line::Lpdu(sender)) => self.lpdu(rt, sender),
+            Err(LineError::Bad(reason)) => println!(rt; "line {}: {reason}", self.line),
+            Err(LineError::Memory) => Err(io::Error::from(AllocError)),
         }
     }
 
-    fn lpdu(&mut self, rt: &HostRuntime, direction: Direction) -> io::Result<()> {
+    fn lpdu(&mut self, rt: &HostRuntime, sender: Direction) -> io::Result<()> {
         let bytes = self.bytes.as_slice();
-        let id = connection(bytes);
-        let read = LpduReader::new(bytes).fragment(u16::MAX, id);
-        show::link(rt, self.slot, direction, id, bytes.len(), read)?;
+        let way = Way {
+            slot: self.slot,
+            sender,
+            connection: connection(bytes),
+        };
+        let read = LpduReader::new(bytes).fragment(u16::MAX, way.connection);
+        show::link(rt, way, bytes.len(), read)?;
         let Ok(fragment) = read else {
             return Ok(());
         };
-        let line = self.slot as usize * 2 + id as usize - 1;
-        let Some(chain) = self.chains.get_mut(line) else {
+        let Some(slot) = self.slots.get_mut(way.slot as usize) else {
             return Ok(());
         };
-        match self.fragments.get_mut(line * 2 + direction as usize) {
-            Some(kept) => join(rt, direction, id, fragment, kept, chain),
+        match slot.get_mut(way.connection as usize - 1) {
+            Some(pending) => pending.join(rt, way, fragment),
             None => Ok(()),
         }
     }
@@ -105,26 +140,6 @@ fn connection(lpdu: &[u8]) -> u8
     }
 }
 
-// Joins a fragment to those before it. A whole TPDU is told.
-fn join(
-    rt: &HostRuntime,
-    direction: Direction,
-    id: u8,
-    fragment: Fragment<Part<'_>>,
-    kept: &mut Kept,
-    chain: &mut Kept,
-) -> io::Result<()> {
-    let told = match kept.add(fragment.bytes.bytes) {
-        Ok(()) if fragment.more => Ok(()),
-        Ok(()) => show::tpdu(rt, direction, id, kept.bytes(), chain),
-        Err(refusal) => show::refused(rt, refusal, "TPDU", FRAGMENTS),
-    };
-    if !fragment.more {
-        kept.clear();
-    }
-    told
-}
-
 fn help(rt: &HostRuntime) -> io::Result<()> {
     println!(rt; "decode reads a recording from standard input, a line at a time:")?;
     println!(rt; "  > 01 00 82 01 01    an LPDU that the host sent")?;
@@ -134,7 +149,7 @@ fn help(rt: &HostRuntime) -> io::Result<()> {
 }
 
 fn decode(rt: &HostRuntime) -> io::Result<()> {
-    let mut decoder = Decoder::new(rt.alloc())?;
+    let mut decoder = Decoder::new(rt.alloc());
     let mut line = Vec::new(rt.alloc());
     for byte in BufReader::new(rt.alloc(), rt.stdin())?.bytes() {
         let byte = byte?;
@@ -152,10 +167,9 @@ fn decode(rt: &HostRuntime) -> io::Result<()> {
 }
 
 fn main(rt: HostRuntime) -> io::Result<()> {
-    for arg in env::args(&rt)?.skip(1) {
-        if arg.as_str() == "--help" {
-            return help(&rt);
-        }
+    if env::args(&rt)?.skip(1).any(|arg| arg.as_str() == "--help") {
+        help(&rt)
+    } else {
+        decode(&rt)
     }
-    decode(&rt)
 }

@@ -1,20 +1,33 @@
 // Recordings: lines of text that show the LPDUs that went between a host and a module.
 #![tactic(auto)]
 
-ghost use Rattle.std.specs.Prelude.{◌≡◌, ◌<◌, IfSome};
+ghost use Rattle.std.specs.Prelude.{◌≡◌, ◌<◌, Some, IfSome};
 ghost use Rattle.std.specs.Option.{ok_or};
 ghost use Rattle.recording.specs.declared.LineError.TheVariants.{Bad, Memory};
 ghost use Rattle.recording.specs.declared.Reason.TheVariants as is;
 ghost use Rattle.recording.specs.Hex.{is_blank, digit as digit_of, pair as pair_of, after, whole, held, read_one, read_all};
+ghost use Rattle.recording.specs.Names.{sender, reason};
 ghost use Rattle.recording.specs.Lines.{Answers, told, all_blank, slot_after, number as number_of, slot_number, lpdu_line, word_line, parsed, ran_out, answered};
 
 use std::alloc::AllocFailed;
+use std::fmt;
 
 // Who sent an LPDU.
 #[derive(Clone, Copy, PartialEq, Eq, Debug)]
 pub enum Direction {
     FromHost,
     FromModule,
+}
+
+impl fmt::Display for Direction {
+    ghost output = { λ d. Some (sender d) };
+
+    fn fmt<W: fmt::Write>(&self, f: &mut fmt::Formatter<W>) -> fmt::Result {
+        f.write_str(match self {
+            Direction::FromHost => "host",
+            Direction::FromModule => "module",
+        })
+    }
 }
 
 // Why a line is none of a recording.
@@ -24,6 +37,19 @@ pub enum Reason {
     Word,
     Slot,
     Hex,
+}
+
+impl fmt::Display for Reason {
+    ghost output = { λ r. Some (reason r) };
+
+    fn fmt<W: fmt::Write>(&self, f: &mut fmt::Formatter<W>) -> fmt::Result {
+        f.write_str(match self {
+            Reason::Long => "longer than 8192 bytes",
+            Reason::Word => "begins with none of >, <, slot and #",
+            Reason::Slot => "the slot is not a digit from 0 to 3",
+            Reason::Hex => "bytes are two hexadecimal digits each, with blanks between them",
+        })
+    }
 }
 
 // What a line says: nothing, the slot of the lines after it, or who sent an LPDU.
