@@ -104,7 +104,7 @@ pub fn object(tag: u32) -> Option<&'static str>
     }
 }
 
-// A byte, which prints in two digits.
+// A byte, which prints in two digits. It and the number below stay two types: one over a const width would not say its digits more plainly.
 #[derive(Clone, Copy)]
 pub struct HexByte(pub u8);
 

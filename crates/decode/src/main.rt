@@ -66,6 +66,7 @@ impl Pending {
 }
 
 // Joins a fragment to those before it. A whole TPDU is told.
+// `kept` and `chain` are two parameters: the borrow check takes no choice between `host` and `module` that stands beside `chain` in one struct.
 fn join(
     rt: &HostRuntime,
     way: Way,
