@@ -38,7 +38,7 @@ pub const DATE_TIME_ENQUIRY: u32 = 0x9F8440;
 
 pub const DATE_TIME: u32 = 0x9F8441;
 
-// An application object: its tag, three bytes as one number, and its body.
+// An application object: its tag, three bytes as one number, since any tag may come, and its body.
 #[derive(Clone, Copy)]
 pub struct Apdu<B> {
     pub tag: u32,

@@ -159,7 +159,7 @@ fn join<R: Resource>(
     Ok(false)
 }
 
-// A module's LPDU: whether the turn comes back for further ones.
+// A module's LPDU: whether the turn comes back for further ones. It stays a bool up to the host, which tells it as `Fed`.
 pub fn feed<R: Resource>(
     place: &mut Place<'_, R>,
     c: ConnectionId,

@@ -36,6 +36,7 @@ impl Turn {
 }
 
 // What comes of an LPDU: the turn comes back for further fragments, is spent, or comes back with a refusal.
+// It is no `Result`: `?` would carry a refused turn past the caller, who has to spend it.
 pub enum Fed {
     More(Turn),
     Done,

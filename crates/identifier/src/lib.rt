@@ -40,6 +40,7 @@ pub fn identity(i: u32) -> u32
     i % 0x10_0000
 }
 
+// Kind 3. The kinds have no enum, since nothing tells the other three apart.
 pub fn is_private(i: u32) -> bool
     ensures { result ≡ private i }
 {

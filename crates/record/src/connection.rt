@@ -118,7 +118,7 @@ impl Connection {
         self.out = false;
     }
 
-    // A fragment joins those before it, if there is room.
+    // A fragment joins those before it, if there is room. Whether there was is a bool, as of an insertion into a set: nothing else is to be told.
     pub fn join(&mut self, more: &[u8]) -> bool
         ensures { adding (nat_le (length (conn_of self.old).fragments + length more.now) 1024) (joining more.now) (conn_of self.old) ≡ (result, conn_of self.new) }
     {

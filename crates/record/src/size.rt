@@ -2,7 +2,7 @@
 ghost use Rattle.std.specs.Prelude.{◌≡◌, ◌≤◌, if◌then◌else◌, Some, None, nat_lt};
 ghost use Rattle.std.specs.Option.{option_map};
 
-// The most bytes of an LPDU that a host and a module agreed on.
+// The most bytes of an LPDU that a host and a module agreed on. It is no `number::Within`, whose numbers are bytes.
 #[derive(Clone, Copy)]
 pub struct AgreedSize {
     bytes: u16,

@@ -33,7 +33,7 @@ pub enum Request<B> {
 }
 
 // A host's SPDU: status, identifier and number of a session asked for, status and number of one given back,
-// or a session's number and an APDU.
+// or a session's number and an APDU. A status is a number here, since any byte may come.
 #[derive(Clone, Copy)]
 pub enum Reply<B> {
     Opened(u8, u32, u16),

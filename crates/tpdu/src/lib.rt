@@ -74,7 +74,7 @@ pub struct TpduReader<'a> {
     cursor: Cursor<'a>,
 }
 
-// An object of a module that has nothing but the connection, by its tag.
+// An object of a module that has nothing but the connection, by its tag. Tags stay numbers: an enum of them would be read by this same match.
 fn bare_object<B>(tag: u8) -> Option<Object<B>>
     ensures { result ≡ bare_object_of tag }
 {
