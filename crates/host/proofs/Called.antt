@@ -1,13 +1,13 @@
 -- A call to one slot is a call to the host.
 use Rattle.std.proofs.Common.{◌≡◌, ℕ, zero, suc, ◌<◌, Bool, true, false, cond, not, ◌&&◌, eqb, leb, ltb, List, [], ◌∷◌, map, length, get_or, set, Some, None, Ok, Err, Option, Result, sym, refl, ap, subst, ◌∙◌, arith}
 use Rattle.std.specs.Prelude.{if◌then◌else◌, ok_or, IfErr}
-use Rattle.std.proofs.lemmas.Bool.{cond_both, eqb-true, eqb-false, le-ltb, lt-ltb, le-leb, lt-leb, ltb-true}
+use Rattle.std.proofs.lemmas.Bool.{cond_both, eqb-true, eqb-false, le-ltb, lt-ltb, le-leb, lt-leb, leb-false}
 use Rattle.std.proofs.lemmas.List.{get_or-map, map-set, get_or-set_same, get_or-set_other, length-map}
 use Rattle.refusal.specs.declared.Refusal.{Refusal}
 use Rattle.refusal.specs.declared.Refusal.TheVariants as no
 use Rattle.resource.specs.Meaning.{Meaning}
 use Rattle.resource.specs.Lawful.{Lawful}
-use Rattle.resource.specs.Places.{no_some}
+use Rattle.resource.specs.Places.{no_some, not_both}
 use Rattle.std.specs.Option.{option_map}
 use Rattle.protocol.specs.Results.{refuse}
 use Rattle.protocol.specs.Record as def
@@ -47,14 +47,15 @@ module _ {S : Type 0} (M : Meaning S) (law : Lawful M) where
       off false y e = refl
 
   -- where a number names no slot every call is refused
-  pub refused_off : {A : Type 0} (f : A → ℕ) (h : Host S) (i : ℕ) (o : Option A) (r : Result A Refusal) → option_map f o ≡ (if ltb 3 i then None else Some i) → r ≡ ok_or o no.Slot
+  pub refused_off : {A : Type 0} (f : A → ℕ) (h : Host S) (i : ℕ) (o : Option A) (r : Result A Refusal) → option_map f o ≡ (if leb 0 i && leb i 3 then Some i else None) → r ≡ ok_or o no.Slot
       → IfErr r (λ e. (a : Act) → Called M (at i a) (Err e) h h)
   refused_off f h i (Some x) r e q = rw q tt
-  refused_off f h i None r e q = rw q (λ a. called_off h i a (above (ltb 3 i) refl e))
+  refused_off f h i None r e q = rw q (λ a. called_off h i a (above (leb 0 i) (leb i 3) (le-leb 0 i (omega arith)) refl e))
     where
-      above : (b : Bool) → ltb 3 i ≡ b → None ≡ (if b then None else Some i) → 3 < i
-      above true t k = ltb-true 3 i t
-      above false t k = no_some i k
+      above : (a b : Bool) → a ≡ true → leb i 3 ≡ b → None ≡ (if a && b then Some i else None) → 3 < i
+      above true true t u k = no_some i k
+      above true false t u k = leb-false i 3 u
+      above false b t u k = not_both false t refl
 
   -- a call on the slot with this number
   module _ (h : Host S) (i j : ℕ) (a : Act) (r : Result Answer Refusal) (x x' : Slot) (s' : S) where
