@@ -96,6 +96,7 @@ enum Spot {
 }
 
 // Where a line stands that tells a slot: after its first word, a blank, the number, or a blank after it.
+// An enum beside the one above, since other characters may follow.
 #[derive(Clone, Copy)]
 enum Place {
     Word,

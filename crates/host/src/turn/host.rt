@@ -150,6 +150,7 @@ impl<R: Resource> Host<R> {
         SlotNumber::new(slot).ok_or(Refusal::Slot)
     }
 
+    // Apart from `feed`, which has three ways out of one call.
     fn feed_at(
         &mut self,
         slot: SlotNumber,
