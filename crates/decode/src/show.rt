@@ -171,10 +171,9 @@ fn answer(rt: &HostRuntime, response: Response<Part<'_>>, chain: &mut Kept) -> i
 
 // Data of the module with more to follow.
 fn more(rt: &HostRuntime, data: &[u8], chain: &mut Kept) -> io::Result<()> {
-    match chain.add(data) {
-        Ok(()) => Ok(()),
-        Err(refusal) => refused(rt, refusal, "SPDU", CHAINED),
-    }
+    chain
+        .add(data)
+        .or_else(|refusal| refused(rt, refusal, "SPDU", CHAINED))
 }
 
 // Data of the module that end an SPDU, unless there are none of it.

@@ -135,7 +135,7 @@ fn take_unit<R: Resource>(place: &mut Place<'_, R>, c: ConnectionId) -> Result<(
     }
 }
 
-// One fragment more: whether the turn comes back for further ones.
+// One fragment more: whether the turn comes back for further ones, a bool as in `feed`.
 fn join<R: Resource>(
     place: &mut Place<'_, R>,
     c: ConnectionId,

@@ -1,7 +1,7 @@
 // A host and the turns that are out, and every call on both.
 ghost use Rattle.std.specs.Prelude.{◌≡◌, ℕ, ◌<◌, List, length, Some, None, slice_set};
-ghost use Rattle.protocol.specs.Calls.{plug as plugs, pull as pulls, end as ends, next as nexts, feed as feeds, expire as expires};
-ghost use Rattle.protocol.specs.Runs.{at as named, clock as clocked};
+ghost use Rattle.protocol.specs.Calls.{next as nexts, feed as feeds, expire as expires};
+ghost use Rattle.protocol.specs.Runs.{at as named};
 ghost use Rattle.slot.specs.Stand.{plainly};
 ghost use Rattle.sending.specs.Next.{written};
 ghost use Rattle.player.specs.Hands.{place, turn_at};

@@ -132,7 +132,7 @@ impl Connection {
         self.fragments.truncate(n);
     }
 
-    // A part of the fragments joins the data, if there is room.
+    // A part of the fragments joins the data, if there is room; whether there was is told as by `join`.
     pub fn chain(&mut self, start: usize, n: usize) -> bool
         ensures { adding (nat_le (length (conn_of self.old).chained + length (part_of start n (conn_of self.old))) 2048) (chaining start n) (conn_of self.old) ≡ (result, conn_of self.new) }
     {

@@ -1,5 +1,5 @@
 // What a slot keeps, with no promise between its parts.
-ghost use Rattle.std.specs.Prelude.{◌≡◌, ◌+◌, ◌<◌, [], length, take, is_some, nat_le, IfSome};
+ghost use Rattle.std.specs.Prelude.{◌≡◌, ◌+◌, ◌<◌, ◌&&◌, leb, if◌then◌else◌, [], length, take, is_some, Some, None, nat_le, IfSome};
 ghost use Rattle.std.specs.Borrow.{sem};
 ghost use Rattle.std.specs.Option.{option_map};
 ghost use Rattle.resource.specs.Tables.{numbers, first};
@@ -110,6 +110,7 @@ impl Record {
         self.line(c).unmark();
     }
 
+    // Whether there was room: see `Connection`.
     pub fn join(&mut self, c: ConnectionId, more: &[u8]) -> bool
         ensures { adding (nat_le (length ((slot_of self.old).conn c.number).fragments + length more.now) 1024) (alter c.number (joining more.now)) (slot_of self.old) ≡ (result, slot_of self.new) }
     {
@@ -122,6 +123,7 @@ impl Record {
         self.line(c).cut(n);
     }
 
+    // Whether there was room: see `Connection`.
     pub fn chain(&mut self, c: ConnectionId, start: usize, n: usize) -> bool
         ensures { adding (nat_le (length ((slot_of self.old).conn c.number).chained + length (part_of start n ((slot_of self.old).conn c.number))) 2048) (alter c.number (chaining start n)) (slot_of self.old) ≡ (result, slot_of self.new) }
     {
@@ -169,7 +171,7 @@ impl Record {
     pub fn session(&self, number: u16) -> Option<Session>
         ensures { session_view result ≡ numbered number ((slot_of self.now).rows number) }
     {
-        let number = u8::try_from(number).ok().and_then(SessionNumber::new)?;
+        let number = session_number(number)?;
         let row = self.row(number)?;
         Some(Session { number, row })
     }
@@ -187,6 +189,13 @@ impl Record {
     {
         number_at(self.rows.iter().position(|row| greets(c.get(), *row)))
     }
+}
+
+// A session's number as two bytes tell it, if it is within the limits.
+pub fn session_number(number: u16) -> Option<SessionNumber>
+    ensures { option_map (λ n. n.number) result ≡ (if leb 1 number && nat_le number 16 then Some number else None) }
+{
+    u8::try_from(number).ok().and_then(SessionNumber::new)
 }
 
 // The number of the session whose row is at a place.

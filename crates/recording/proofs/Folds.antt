@@ -1,6 +1,5 @@
--- Steps over a list from a state to a state, until one is at fault: one step, a fault, and the end.
+-- Steps over a list from a state to a state, until one is at fault: one step, and a fault.
 use Rattle.std.proofs.Common.{◌≡◌, ℕ, ◌+◌, ◌<◌, ◌≤◌, List, length, get_or, take, Option, Some, None, sym, ap, refl, ◌∙◌}
-use Rattle.std.proofs.lemmas.List.{take_all}
 use Rattle.std.proofs.lemmas.List.Sums.{fold_more}
 use Rattle.std.proofs.lemmas.List.Folds.{fold_stuck}
 use Rattle.recording.specs.Hex.{onward, run}
@@ -11,6 +10,3 @@ module _ {X Y : Type 0} (f : Y → X → Option Y) (a : Y) (xs : List X) (i : �
 
   pub run_stuck : (s : Y) (d : X) → i < length xs → run f a (take i xs) ≡ Some s → f s (get_or xs i d) ≡ None → run f a xs ≡ None
   run_stuck s d lt inv e = sym (fold_stuck (onward f) None (λ x. refl) (Some a) xs i d lt (ap (λ o. onward f o (get_or xs i d)) inv ∙ e))
-
-  pub run_all : (s : Y) → length xs ≤ i → run f a (take i xs) ≡ Some s → run f a xs ≡ Some s
-  run_all s past inv = ap (run f a) (sym (take_all i xs past)) ∙ inv

@@ -8,7 +8,7 @@ mod tests {
     use information::Information;
     use manager::Manager;
     use piece::Piece;
-    use resource::{Readiness, Refused, Resource};
+    use resource::{Refused, Resource};
     use standard::standard;
 
     const MANAGER: u32 = 0x00010041;
@@ -183,17 +183,9 @@ mod tests {
     fn all_under_a_quota(rt: HostRuntime) {
         let mut r = standard(2, &[MANAGER, INFORMATION, DATE_TIME]);
         assert_eq!(rt; r.find(0x00020050), Some(INFORMATION));
-        assert_eq!(rt; r.ready(0, DATE_TIME), Readiness::Ready);
-        assert_eq!(rt;
-            r.ready(0, 0x00240042),
-            Readiness::Unavailable,
-            "not listed"
-        );
-        assert_eq!(rt;
-            r.ready(4, DATE_TIME),
-            Readiness::Unavailable,
-            "no such slot"
-        );
+        assert_eq!(rt; u8::from(r.ready(0, DATE_TIME)), 0);
+        assert_eq!(rt; u8::from(r.ready(0, 0x00240042)), 0xF1, "not listed");
+        assert_eq!(rt; u8::from(r.ready(4, DATE_TIME)), 0xF1, "no such slot");
         r.opened(0, MANAGER, 0);
         r.opened(0, MANAGER, 17);
         r.opened(4, MANAGER, 1);
@@ -204,15 +196,15 @@ mod tests {
         r.opened(0, DATE_TIME, 2);
         assert_eq!(rt; r.count(0), 2);
         assert_eq!(rt;
-            r.ready(0, INFORMATION),
-            Readiness::Busy,
+            u8::from(r.ready(0, INFORMATION)),
+            0xF3,
             "as many as the quota"
         );
-        assert_eq!(rt; r.ready(1, INFORMATION), Readiness::Ready);
+        assert_eq!(rt; u8::from(r.ready(1, INFORMATION)), 0);
         r.closed(0, MANAGER, 2);
         assert_eq!(rt; r.count(0), 2);
         r.gone(0);
         assert_eq!(rt; r.count(0), 0);
-        assert_eq!(rt; r.ready(0, INFORMATION), Readiness::Ready);
+        assert_eq!(rt; u8::from(r.ready(0, INFORMATION)), 0);
     }
 }

@@ -1,7 +1,7 @@
 // What a connection sends: the command that is due, written as link units.
 #![tactic(auto)]
 
-ghost use Rattle.std.specs.Prelude.{◌≡◌, ◌≤◌, length, take, is_some};
+ghost use Rattle.std.specs.Prelude.{◌≡◌, ◌≤◌, length, is_some};
 ghost use Rattle.lpdu.specs.Fragments.{write_lpdus as lpdus_written};
 ghost use Rattle.tpdu.specs.declared.Command.TheVariants.{Data};
 ghost use Rattle.tpdu.specs.Commands.{write_command as command_bytes};
@@ -150,7 +150,7 @@ impl From<Owed<Piece>> for Due {
     }
 }
 
-// A connection of a slot: the slot's record and number, and the resource.
+// A connection of a slot: the slot's record and number, and the resource. It is no `slot::Place`, since the resource is only read and may be shared.
 #[derive(Drop)]
 struct Place<'a, R> {
     record: &'a mut Record,
@@ -258,7 +258,7 @@ impl<'a, R: Resource> Place<'a, R> {
     }
 }
 
-// Writes the command that is due as link units, all but the last of the agreed size.
+// Writes the command that is due as link units, all but the last of the agreed size. It takes its parts apart, so that a caller may hold the resource shared.
 pub fn next<R: Resource>(
     slot: &mut Record,
     resource: &R,

@@ -37,7 +37,7 @@ pub enum CloseStatus {
     NotOpen = 0xF0,
 }
 
-// No session is opened, and the module is told why.
+// No session is opened, and the module is told why, by the status byte of an `OpenStatus` or of a `Readiness`.
 fn refuse_open(slot: &mut Record, c: ConnectionId, status: u8, identifier: u32)
     ensures { slot_of slot.new ≡ alter c.number (owing (Say (Opened status identifier 0))) (slot_of slot.old) }
 {

@@ -50,7 +50,7 @@ impl<'a, R: Resource> Place<'a, R> {
         }
     }
 
-    // The sessions of the connection end, in rising order.
+    // The sessions of the connection end, in rising order: a `for` over their numbers, since the order is a rule.
     fn close_all(&mut self, c: ConnectionId)
         ensures { StepAt R.Resource.meaning (λ made k. closed_all R.Resource.meaning made k c.number numbers) self.old self.new }
     {

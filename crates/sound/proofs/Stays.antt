@@ -1,5 +1,5 @@
 -- Every call leaves a sound record sound.
-use Rattle.std.proofs.Common.{◌≡◌, ℕ, ◌<◌, Result, sym, subst, arith}
+use Rattle.std.proofs.Common.{ℕ, ◌<◌, Result, sym, subst, arith}
 use mathlib.Core.Logic.{∥∥₁_map}
 use Rattle.std.proofs.lemmas.Bool.{le-leb}
 use Rattle.refusal.specs.declared.Refusal.{Refusal}

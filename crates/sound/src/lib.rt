@@ -82,7 +82,7 @@ impl Slot {
         sending::next(&mut self.kept, resource, at.get(), connection, out)
     }
 
-    // Whether the turn comes back for further fragments.
+    // Whether the turn comes back for further fragments: a bool, as in crate feeding.
     pub fn feed<R: Resource>(
         &mut self,
         resource: &mut R,

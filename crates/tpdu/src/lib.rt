@@ -87,7 +87,7 @@ fn bare_object<B>(tag: u8) -> Option<Object<B>>
     }
 }
 
-// A command that has nothing but the connection, by its tag.
+// A command that has nothing but the connection, by its tag. A table beside the one above, since the two are of other enums.
 fn bare_command<B>(tag: u8) -> Option<Command<B>>
     ensures { result ≡ bare_command_of tag }
 {
@@ -153,6 +153,7 @@ impl<'a> TpduReader<'a> {
         }
     }
 
+    // DA, the bit that says that the module has data to send.
     fn status(&mut self, id: u8) -> Result<bool, TransportFault>
         ensures { status_of id (place self.old.cursor) ≡ (transport result, place self.new.cursor) }
     {

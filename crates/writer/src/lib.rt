@@ -1,7 +1,7 @@
 // Writing units into a caller's slice: all of the bytes, or none of them.
 #![tactic(auto)]
 
-ghost use Rattle.std.specs.Prelude.{◌≡◌, ◌++◌, length};
+ghost use Rattle.std.specs.Prelude.{◌≡◌, true, ◌++◌, length, drop, nat_le};
 ghost use Rattle.std.specs.List.{flat_map};
 ghost use Rattle.writer.specs.Writing.{laid, write_length as length_written, told, laid_object};
 
@@ -18,21 +18,44 @@ pub enum WriteFault {
     Room,
 }
 
+// Whether the pieces, one after another, fit into so much room.
+fn fits(pieces: &[&[u8]], room: usize) -> bool
+    ensures { result ≡ nat_le (length (flat_map (λ x. x.now) pieces.now)) room }
+{
+    let mut left = room;
+    for piece in pieces {
+        if piece.len() > left {
+            return false;
+        }
+        left -= piece.len();
+    }
+    true
+}
+
+// Copies the pieces one after another to the front of a slice, and counts their bytes.
+fn copy(pieces: &[&[u8]], out: &mut [u8]) -> usize
+    requires { true ≡ nat_le (length (flat_map (λ x. x.now) pieces.now)) (length out.old) }
+    ensures count { result ≡ length (flat_map (λ x. x.now) pieces.now) }
+    ensures bytes { out.new ≡ flat_map (λ x. x.now) pieces.now ++ drop (length (flat_map (λ x. x.now) pieces.now)) out.old }
+{
+    // a number and no slice: of a slice that a loop moves on, a proof knows the length alone
+    let mut at = 0;
+    for piece in pieces {
+        let end = at + piece.len();
+        out[at..end].copy_from_slice(piece);
+        at = end;
+    }
+    at
+}
+
 // Puts the pieces one after another to the front of a slice, and answers how many bytes they are.
-// It calls itself for each piece, and a unit has four at most.
 pub fn put(pieces: &[&[u8]], out: &mut [u8]) -> Result<usize, WriteFault>
     ensures { laid (flat_map (λ x. x.now) pieces.now) out.old ≡ (result, out.new) }
 {
-    let Some((piece, others)) = pieces.split_first() else {
-        return Ok(0);
-    };
-    let (here, behind) = out
-        .split_at_mut_checked(piece.len())
-        .ok_or(WriteFault::Room)?;
-    // the others first, so that nothing is written where they do not fit
-    let n = put(others, behind)?;
-    here.copy_from_slice(piece);
-    Ok(piece.len() + n)
+    if !fits(pieces, out.len()) {
+        return Err(WriteFault::Room);
+    }
+    Ok(copy(pieces, out))
 }
 
 // Two pieces, one behind the other.
@@ -72,7 +95,7 @@ fn total(head: &[u8], body: &[u8]) -> Option<u16>
     u16::try_from(head.len().checked_add(body.len())?).ok()
 }
 
-// Writes a tag, a length and that many bytes, which are given in two parts.
+// Writes a tag, a length and that many bytes, which are given in two parts. The tag is a byte of the wire, whatever it names.
 pub fn write_object(tag: u8, head: &[u8], body: &[u8], out: &mut [u8]) -> Result<usize, WriteFault>
     ensures { laid_object tag (head.now ++ body.now) out.old ≡ (result, out.new) }
 {

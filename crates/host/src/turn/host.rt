@@ -150,7 +150,7 @@ impl<R: Resource> Host<R> {
         SlotNumber::new(slot).ok_or(Refusal::Slot)
     }
 
-    // Apart from `feed`, which has three ways out of one call.
+    // Apart from `feed`, which has three ways out of one call. The bool says whether the turn comes back.
     fn feed_at(
         &mut self,
         slot: SlotNumber,
