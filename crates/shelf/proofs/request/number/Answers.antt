@@ -1,4 +1,4 @@
-use Rattle.std.proofs.Common.{rules, ◌≡◌, sym, ◌∙◌}
+use Rattle.std.proofs.Common.{rules, sym, ◌∙◌}
 use Rattle.std.proofs.lemmas.Str.Parse.{parse_digits}
 use Rattle.shelf.proofs.Digits.{numerals, text}
 use Rattle.shelf.proofs.request.number.Goals as goal
