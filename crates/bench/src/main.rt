@@ -1,27 +1,12 @@
 // Runs exchanges between a host and a scripted module in memory, and prints what it counted. `tools/measure` counts the instructions of a run.
 #![tactic(auto)]
 
-use date_time::DateTime;
 use host::turn::host::Host;
 use host::turn::{Fed, Next};
-use information::Information;
-use layers::pair::Pair;
-use manager::Manager;
-use named::Named;
 use refusal::Refusal;
+use standard::{APPLICATION_INFORMATION, DATE_TIME, RESOURCE_MANAGER, Three, three};
 use std::mem::size_of;
 use std::{env, io};
-
-// Resource Manager, Application Information and Date-Time, as in `shelf`.
-type Resources = Pair<Pair<Named<Manager>, Named<Information>>, Named<DateTime>>;
-
-fn resources() -> Resources {
-    let manager = Manager::resource(&[0x00010041, 0x00020041, 0x00240041]);
-    Pair::new(
-        Pair::new(manager, Information::resource()),
-        DateTime::resource(),
-    )
-}
 
 // What the module answers on connection 1, each in one LPDU: that it is there, that it has nothing to send, that it has something.
 const CREATED: [u8; 9] = [1, 0, 0x83, 1, 1, 0x80, 2, 1, 0x80];
@@ -68,7 +53,7 @@ impl Order {
 
 #[derive(Drop)]
 struct Bench {
-    host: Host<Resources>,
+    host: Host<Three>,
     exchanges: u64,
     written: u64,
 }
@@ -76,7 +61,7 @@ struct Bench {
 impl Bench {
     fn new() -> Bench {
         Bench {
-            host: Host::new(resources()),
+            host: Host::new(three(&[RESOURCE_MANAGER, APPLICATION_INFORMATION, DATE_TIME])),
             exchanges: 0,
             written: 0,
         }
@@ -167,10 +152,7 @@ fn told(rt: &HostRuntime, order: Order) -> io::Result<()> {
     println!(rt; "{} exchanges", bench.exchanges)?;
     println!(rt; "{} bytes written", bench.written)?;
     println!(rt; "{} sessions open at the end", bench.open_sessions())?;
-    println!(rt;
-        "{} bytes of memory in a host",
-        size_of::<Host<Resources>>()
-    )
+    println!(rt; "{} bytes of memory in a host", size_of::<Host<Three>>())
 }
 
 fn main(rt: HostRuntime) -> io::Result<()> {

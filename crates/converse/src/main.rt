@@ -6,14 +6,8 @@ use apdu::{
     APPLICATION_INFO, Apdu, DATE_TIME_ENQUIRY, PROFILE_CHANGED, PROFILE_ENQUIRY, PROFILE_REPLY,
 };
 use resource::{Refused, Resource};
-use standard::standard;
+use standard::{APPLICATION_INFORMATION, DATE_TIME, RESOURCE_MANAGER, standard};
 use std::io;
-
-const MANAGER: u32 = 0x00010041;
-
-const INFORMATION: u32 = 0x00020041;
-
-const DATE_TIME: u32 = 0x00240041;
 
 fn bytes(rt: &HostRuntime, bytes: &[u8]) -> io::Result<()> {
     for byte in bytes {
@@ -69,13 +63,13 @@ fn said(identifier: u32, number: u8, tag: u32, body: &[u8]) -> Step<'_> {
 
 fn converse<R: Resource>(rt: &HostRuntime, resource: &mut R) -> io::Result<()> {
     let steps = [
-        Step::Open(MANAGER, 1),
-        said(MANAGER, 1, PROFILE_REPLY, &[]),
-        said(MANAGER, 1, PROFILE_ENQUIRY, &[]),
-        said(MANAGER, 1, PROFILE_CHANGED, &[0]),
-        Step::Open(INFORMATION, 2),
+        Step::Open(RESOURCE_MANAGER, 1),
+        said(RESOURCE_MANAGER, 1, PROFILE_REPLY, &[]),
+        said(RESOURCE_MANAGER, 1, PROFILE_ENQUIRY, &[]),
+        said(RESOURCE_MANAGER, 1, PROFILE_CHANGED, &[0]),
+        Step::Open(APPLICATION_INFORMATION, 2),
         said(
-            INFORMATION,
+            APPLICATION_INFORMATION,
             2,
             APPLICATION_INFO,
             &[1, 2, 3, 4, 5, 2, 0x48, 0x69],
@@ -99,6 +93,6 @@ fn converse<R: Resource>(rt: &HostRuntime, resource: &mut R) -> io::Result<()> {
 }
 
 fn main(rt: HostRuntime) -> io::Result<()> {
-    let mut resource = standard(3, &[MANAGER, INFORMATION, DATE_TIME]);
+    let mut resource = standard(3, &[RESOURCE_MANAGER, APPLICATION_INFORMATION, DATE_TIME]);
     converse(&rt, &mut resource)
 }

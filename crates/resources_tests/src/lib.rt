@@ -9,13 +9,7 @@ mod tests {
     use manager::Manager;
     use piece::Piece;
     use resource::{Refused, Resource};
-    use standard::standard;
-
-    const MANAGER: u32 = 0x00010041;
-
-    const INFORMATION: u32 = 0x00020041;
-
-    const DATE_TIME: u32 = 0x00240041;
+    use standard::{APPLICATION_INFORMATION, DATE_TIME, RESOURCE_MANAGER, standard};
 
     // What is answered to an object, with the bytes of a reply.
     type Answer<'a> = Result<Option<&'a [u8]>, Refused>;
@@ -39,7 +33,7 @@ mod tests {
             body: &[0],
         };
         assert_eq!(rt; r.find(0x00240042), Some(DATE_TIME));
-        assert_eq!(rt; r.find(MANAGER), None);
+        assert_eq!(rt; r.find(RESOURCE_MANAGER), None);
         assert!(rt; r.greeting(DATE_TIME).is_none());
         r.opened(0, DATE_TIME, 1);
         assert_eq!(rt; said(&r.object(0, DATE_TIME, 1, asks)), Ok(None));
@@ -74,10 +68,10 @@ mod tests {
 
     #[test]
     fn manager(rt: HostRuntime) {
-        let mut r = Manager::resource(&[MANAGER, DATE_TIME]);
-        assert!(rt; greets(r.greeting(MANAGER), &[0x9F, 0x80, 0x10, 0]));
-        r.opened(2, MANAGER, 1);
-        r.opened(2, MANAGER, 16);
+        let mut r = Manager::resource(&[RESOURCE_MANAGER, DATE_TIME]);
+        assert!(rt; greets(r.greeting(RESOURCE_MANAGER), &[0x9F, 0x80, 0x10, 0]));
+        r.opened(2, RESOURCE_MANAGER, 1);
+        r.opened(2, RESOURCE_MANAGER, 16);
         let table: [(u8, u32, &[u8], Answer<'_>); 10] = [
             (
                 1,
@@ -102,15 +96,15 @@ mod tests {
         ];
         for (number, tag, body, expected) in table {
             assert_eq!(rt;
-                said(&r.object(2, MANAGER, number, Apdu { tag, body })),
+                said(&r.object(2, RESOURCE_MANAGER, number, Apdu { tag, body })),
                 expected
             );
         }
-        r.closed(2, MANAGER, 1);
-        r.opened(2, MANAGER, 1);
+        r.closed(2, RESOURCE_MANAGER, 1);
+        r.opened(2, RESOURCE_MANAGER, 1);
         let first = r.object(
             2,
-            MANAGER,
+            RESOURCE_MANAGER,
             1,
             Apdu {
                 tag: 0x9F8011,
@@ -123,8 +117,8 @@ mod tests {
     #[test]
     fn information(rt: HostRuntime) {
         let mut r = Information::resource();
-        assert!(rt; greets(r.greeting(INFORMATION), &[0x9F, 0x80, 0x20, 0]));
-        r.opened(1, INFORMATION, 3);
+        assert!(rt; greets(r.greeting(APPLICATION_INFORMATION), &[0x9F, 0x80, 0x20, 0]));
+        r.opened(1, APPLICATION_INFORMATION, 3);
         let table: [(u32, &[u8], Answer<'_>); 4] = [
             (0x9F8021, &[1, 2, 3, 4, 5, 2, 0x48, 0x69], Ok(None)),
             (0x9F8021, &[1, 2, 3, 4, 5, 2, 0x48], Err(Refused(1))),
@@ -133,11 +127,11 @@ mod tests {
         ];
         for (tag, body, expected) in table {
             assert_eq!(rt;
-                said(&r.object(1, INFORMATION, 3, Apdu { tag, body })),
+                said(&r.object(1, APPLICATION_INFORMATION, 3, Apdu { tag, body })),
                 expected
             );
         }
-        r.closed(1, INFORMATION, 3);
+        r.closed(1, APPLICATION_INFORMATION, 3);
         assert_eq!(rt;
             r.kind().kept(1),
             Some([1, 2, 3, 4, 5, 2, 0x48, 0x69].as_slice())
@@ -159,18 +153,18 @@ mod tests {
             body: &[],
         };
         let mut many = Manager::resource(&[DATE_TIME; 17]);
-        many.opened(0, MANAGER, 1);
-        assert_eq!(rt; reply_length(many.object(0, MANAGER, 1, asks)), 68);
+        many.opened(0, RESOURCE_MANAGER, 1);
+        assert_eq!(rt; reply_length(many.object(0, RESOURCE_MANAGER, 1, asks)), 68);
         let mut none = Manager::resource(&[]);
-        none.opened(0, MANAGER, 1);
-        assert_eq!(rt; reply_length(none.object(0, MANAGER, 1, asks)), 4);
+        none.opened(0, RESOURCE_MANAGER, 1);
+        assert_eq!(rt; reply_length(none.object(0, RESOURCE_MANAGER, 1, asks)), 4);
         let mut r = Information::resource();
-        r.opened(0, INFORMATION, 1);
+        r.opened(0, APPLICATION_INFORMATION, 1);
         let longest: Apdu<&[u8]> = Apdu {
             tag: 0x9F8021,
             body: &[0xFF; 261],
         };
-        let answer = r.object(0, INFORMATION, 1, longest);
+        let answer = r.object(0, APPLICATION_INFORMATION, 1, longest);
         assert_eq!(rt; said(&answer), Ok(None));
         assert!(rt;
             r.kind()
@@ -181,30 +175,30 @@ mod tests {
 
     #[test]
     fn all_under_a_quota(rt: HostRuntime) {
-        let mut r = standard(2, &[MANAGER, INFORMATION, DATE_TIME]);
-        assert_eq!(rt; r.find(0x00020050), Some(INFORMATION));
+        let mut r = standard(2, &[RESOURCE_MANAGER, APPLICATION_INFORMATION, DATE_TIME]);
+        assert_eq!(rt; r.find(0x00020050), Some(APPLICATION_INFORMATION));
         assert_eq!(rt; u8::from(r.ready(0, DATE_TIME)), 0);
         assert_eq!(rt; u8::from(r.ready(0, 0x00240042)), 0xF1, "not listed");
         assert_eq!(rt; u8::from(r.ready(4, DATE_TIME)), 0xF1, "no such slot");
-        r.opened(0, MANAGER, 0);
-        r.opened(0, MANAGER, 17);
-        r.opened(4, MANAGER, 1);
+        r.opened(0, RESOURCE_MANAGER, 0);
+        r.opened(0, RESOURCE_MANAGER, 17);
+        r.opened(4, RESOURCE_MANAGER, 1);
         assert_eq!(rt; r.count(0), 0);
-        r.opened(0, MANAGER, 1);
-        r.opened(0, MANAGER, 1);
+        r.opened(0, RESOURCE_MANAGER, 1);
+        r.opened(0, RESOURCE_MANAGER, 1);
         assert_eq!(rt; r.count(0), 1);
         r.opened(0, DATE_TIME, 2);
         assert_eq!(rt; r.count(0), 2);
         assert_eq!(rt;
-            u8::from(r.ready(0, INFORMATION)),
+            u8::from(r.ready(0, APPLICATION_INFORMATION)),
             0xF3,
             "as many as the quota"
         );
-        assert_eq!(rt; u8::from(r.ready(1, INFORMATION)), 0);
-        r.closed(0, MANAGER, 2);
+        assert_eq!(rt; u8::from(r.ready(1, APPLICATION_INFORMATION)), 0);
+        r.closed(0, RESOURCE_MANAGER, 2);
         assert_eq!(rt; r.count(0), 2);
         r.gone(0);
         assert_eq!(rt; r.count(0), 0);
-        assert_eq!(rt; u8::from(r.ready(0, INFORMATION)), 0);
+        assert_eq!(rt; u8::from(r.ready(0, APPLICATION_INFORMATION)), 0);
     }
 }
