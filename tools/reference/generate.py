@@ -17,6 +17,7 @@ DATA_OBJECTS = (host.T_DATA_LAST, host.T_DATA_MORE)
 MODULE_OBJECTS = (None, *SINGLE_OBJECTS, *DATA_OBJECTS)
 FOREIGN_TAGS = (0x00, 0x7F, 0x81, 0x82, 0x87, 0x88, 0x90, 0x9F, 0xA2, 0xFF)
 SPDU_TAGS = (0x90, 0x91, 0x92, 0x93, 0x94, 0x95, 0x96, 0x00, 0x9F, 0xFF)
+SETTLED = (State.IDLE, State.ACTIVE)
 APDU_TAGS = (host.PROFILE_ENQUIRY, host.PROFILE, host.PROFILE_CHANGE,
              host.APPLICATION_ENQUIRY, host.APPLICATION_INFORMATION,
              host.TIME_ENQUIRY, host.TIME, 0x9F8000, 0x9F8013, 0x9F8022,
@@ -66,7 +67,8 @@ class Habits:
         self.stray = calm * rng.choice((0.03, 0.1, 0.2))  # of calls out of place
         self.malform = calm * rng.choice((0.05, 0.15, 0.3))  # of malformed units
         self.leave = calm * rng.choice((0.0, 0.01, 0.04))  # to expire, delete or pull
-        self.end = 0 if settled else rng.choice((0.0, 0.02, 0.15))
+        self.end = 0 if settled else rng.choice((0.0, 0.03, 0.2))
+        self.hasty = 0 if settled else rng.choice((0.0, 0.2, 0.5))  # to make any call
 
 
 class Dice:
@@ -112,6 +114,14 @@ class Units(Dice):
         return self.pick((b"", b"\x80", b"\x81", b"\x82", b"\x82\x00", b"\xFF",
                           bytes([0x83, 0, 0, value]), bytes([0x84, 0, 0, 0, value]),
                           bytes([0x80, value]), bytes([0x83, value])))
+
+    def cut_length(self):
+        """A length field at the end of a unit, with bytes missing."""
+        return self.pick((b"", b"\x81", b"\x82", b"\x82\x01"))
+
+    def large_length(self):
+        """A length that is told in two bytes or three, and is more than is there."""
+        return write_length(self.pick((0x80, 0xFF, 0x100, 0xFFFF)))
 
     def object(self, tag, number, data=b""):
         return bytes([tag]) + self.length(1 + len(data)) + bytes([number]) + data
@@ -182,7 +192,9 @@ class Units(Dice):
             lambda: first + bytes([self.pick(FOREIGN_TAGS), 2, number, 0]),
             lambda: first + self.object(single, number) + status,
             lambda: first,
-            lambda: first + b"\x80",
+            lambda: first + b"\x80" + self.cut_length(),
+            lambda: first + b"\x80" + self.large_length() + bytes([number, 0]),
+            lambda: bytes([self.pick((either, host.T_SB))]) + self.cut_length(),
             lambda: bytes([self.pick((either, host.T_SB))]) + self.no_length(1),
             lambda: bytes([either]) + self.no_length(1) + bytes([number]) + status,
             lambda: b"\x80" + self.no_length(2) + bytes([number, 0]),
@@ -229,6 +241,8 @@ class Units(Dice):
             lambda: b"\x91" + self.no_length(4) + identifier,
             lambda: bytes([self.pick((0x90, 0x95))]) + self.no_length(2) + number,
             lambda: bytes([self.pick(SPDU_TAGS)]),
+            lambda: bytes([self.pick((0x90, 0x91, 0x95))]) + self.cut_length(),
+            lambda: bytes([self.pick((0x90, 0x91, 0x95))]) + self.large_length() + identifier,
             lambda: b"\x91" + self.length(4) + identifier[:self.rng.randint(0, 3)],
             lambda: b"\x91" + self.length(4) + identifier + self.some_bytes(1),
             lambda: b"\x95" + self.length(2) + number[:self.rng.randint(0, 1)],
@@ -317,7 +331,8 @@ class Units(Dice):
             lambda: bytes([0x9F, self.pick((0x00, 0x7F))]),
             lambda: bytes([0x9F, 0x80, self.pick((0x80, 0x90, 0xFF)), 0]),
             lambda: bytes([0x9F, 0x80, self.pick((0x80, 0xFF))]),
-            lambda: tag + self.no_length(0),
+            lambda: tag + self.cut_length(),
+            lambda: tag + self.large_length() + self.some_bytes(4),
             lambda: tag + self.no_length(0),
             lambda: tag + self.no_length(1) + b"\x00",
             lambda: tag + self.no_length(4) + bytes(4),
@@ -386,14 +401,18 @@ class BadLines(Dice):
 
 
 class Generator(Units, BadLines):
-    """Writes lines and has them answered, until there are as many calls as asked for."""
+    """Writes lines and has them answered."""
 
-    def __init__(self, seed, calls):
-        self.rng = random.Random(seed)
-        self.habits = Habits(self.rng)
-        self.shelf = Shelf()
+    def __init__(self, seed, calls, shelf=None):
+        self.shelf = shelf or Shelf()
         self.lines = []
         self.plans = {}  # by slot and connection, the LPDUs to feed
+        self.go_on(seed, calls)
+
+    def go_on(self, seed, calls):
+        """Takes on the habits of a seed until there are so many calls in all."""
+        self.rng = random.Random(seed)
+        self.habits = Habits(self.rng)
         self.key = (self.habits.slots[0], 1)
         while self.shelf.calls < calls:
             self.step()
@@ -452,26 +471,28 @@ class Generator(Units, BadLines):
         connection = self.connection(key)
         if not self.slot(key).present:
             if connection.turn_out and self.chance(0.6):
-                self.stale(key)
+                self.any_call(key)
             else:
                 self.call("plug", key[0], self.pick(self.habits.sizes))
+        elif self.chance(self.habits.hasty / (5 if connection.state in SETTLED else 1)):
+            self.any_call(key)
         elif self.chance(self.habits.leave / 2):
             self.call("pull", key[0])
         elif connection.turn_out and connection.state in host.HEARING:
             self.respond(key)
         elif connection.turn_out and not self.chance(self.habits.patience):
-            self.stale(key)
+            self.any_call(key)
         elif connection.state is State.IDLE:
             self.revive(key)
         elif connection.state is State.ACTIVE and self.chance(self.habits.end):
             self.call("end", *key)
         elif connection.turn_out:
-            self.stale(key)
+            self.any_call(key)
         else:
             self.next(key)
 
-    def stale(self, key):
-        """Meets a turn that outlived its connection."""
+    def any_call(self, key):
+        """Makes a call that the connection may not wait for."""
         do = self.weighted({"next": 2, "end": 1, "feed": 3, "expire": 2, "plug": 1, "pull": 0.3})
         if do == "feed":
             tpdu = self.tpdu(self.pick(MODULE_OBJECTS), key)
@@ -500,12 +521,14 @@ class Generator(Units, BadLines):
     def next(self, key):
         if self.connection(key).state is not State.ACTIVE:
             self.plans.pop(key, None)
-        if not self.chance(self.habits.room):
-            self.call("next", *key)
-            return
         fit = len(self.shelf.host.due(*key))
-        room = self.pick((fit, fit, fit - 1, fit - 1, fit + 1, 0, 2, 151, 152, 65535))
-        self.call("next", *key, room)
+        if fit > self.slot(key).size:
+            self.call("next", *key, self.pick((fit, fit - 1, 152)))
+        elif self.chance(self.habits.room):
+            room = self.pick((fit, fit, fit - 1, fit - 1, fit + 1, 0, 2, 151, 152, 65535))
+            self.call("next", *key, room)
+        else:
+            self.call("next", *key)
 
     # Feeding
 
@@ -550,11 +573,11 @@ class Generator(Units, BadLines):
         if self.chance(self.habits.limit):
             return self.limit_plan(key)
         beside = self.slot(key).connections[host.other(key[1])]
-        settled = beside.state in (State.IDLE, State.ACTIVE)
+        settled = beside.state in SETTLED
         do = self.weighted({
             "data": 80, "status": 8, "none": 2, "wrong": 3,
             "request": 2 if settled else 20,
-            "delete": 100 * self.habits.leave,
+            "delete": 200 * self.habits.leave,
         })
         if do == "data":
             return self.data_plan(self.spdu(key), key)

@@ -192,8 +192,7 @@ def read_object(reader, connection, tags):
     return tag, body[1:]
 
 
-def read_tpdu(unit, connection):
-    reader = Reader(unit)
+def read_tpdu(reader, connection):
     tag, data = read_object(reader, connection, OBJECT_LENGTHS)
     if tag == T_SB:
         tag, status, data = None, data, b""
@@ -222,8 +221,7 @@ SPDU_LENGTHS = {
 }
 
 
-def read_spdu(unit):
-    reader = Reader(unit)
+def read_spdu(reader):
     tag = reader.byte()
     if tag not in SPDU_LENGTHS:
         raise Fault("tag")
@@ -254,8 +252,7 @@ class APDU(NamedTuple):
     body: bytes
 
 
-def read_apdu(unit):
-    reader = Reader(unit)
+def read_apdu(reader):
     first = reader.byte()
     if first != 0x9F:
         raise Fault("tag")
@@ -592,7 +589,7 @@ class Host:
         if more:
             connection.fragments = fragments
             return turn
-        tpdu = heard(11, read_tpdu, fragments, turn.connection)
+        tpdu = heard(11, read_tpdu, Reader(fragments), turn.connection)
         self._take_tpdu(turn, tpdu)
         connection.fragments = b""
         connection.turn_out = False
@@ -677,7 +674,7 @@ class Host:
                 connection.data = data
                 return
             if data:
-                self._take_spdu(turn, heard(14, read_spdu, data))
+                self._take_spdu(turn, heard(14, read_spdu, Reader(data)))
             connection.data = b""
         else:
             raise Refusal(12)
@@ -726,7 +723,7 @@ class Host:
     def _pass_object(self, turn, number, body):
         session = self.slots[turn.slot].session_on(turn.connection, number)
         refuse_if(session is None, 15)
-        apdu = heard(16, read_apdu, body)
+        apdu = heard(16, read_apdu, Reader(body))
         try:
             reply = self.resource.object(turn.slot, number, session.identifier, apdu)
         except ResourceRefusal as refusal:

@@ -213,13 +213,17 @@ class Shelf:
         return lines
 
 
-def main():
-    shelf = Shelf()
-    for line in sys.stdin.buffer:
+def play(shelf, lines):
+    """What a shelf prints for the lines that it reads, to their end."""
+    for line in lines:
         answer = shelf.answer(line.removesuffix(b"\n"))
         if answer is not None:
-            print(answer, flush=True)
-    for line in shelf.close():
+            yield answer
+    yield from shelf.close()
+
+
+def main():
+    for line in play(Shelf(), sys.stdin.buffer):
         print(line, flush=True)
 
 

@@ -1,5 +1,6 @@
 """Worked examples of the rules, and what must hold over random scripts."""
 
+import io
 import pickle
 import unittest
 from collections import Counter
@@ -7,7 +8,8 @@ from collections import Counter
 import host
 from generate import Generator
 from host import Fault, State
-from shelf import Shelf
+from shelf import Shelf, play
+from tally import GROUPS, NAMES, Watched
 
 
 def octets(text):
@@ -78,15 +80,15 @@ class Units(unittest.TestCase):
                            ("83010183010180020100", "tag"), ("82010180020100", "tag"),
                            ("A00080020100", "length"), ("830101", "length"),
                            ("8081020180", None), ("", "length")):
-            self.assertEqual(fault(host.read_tpdu, octets(tpdu), 1), kind, tpdu)
+            self.assertEqual(fault(host.read_tpdu, host.Reader(octets(tpdu)), 1), kind, tpdu)
 
     def test_spdu_and_apdu_faults(self):
         for spdu, kind in (("9207", "tag"), ("9102", "length"), ("9502000100", "length"),
                            ("90020001", None), ("", "length")):
-            self.assertEqual(fault(host.read_spdu, octets(spdu)), kind, spdu)
+            self.assertEqual(fault(host.read_spdu, host.Reader(octets(spdu))), kind, spdu)
         for apdu, kind in (("9F", "length"), ("9F80", "length"), ("9E", "tag"), ("9F00", "tag"),
                            ("9F8080", "tag"), ("9F801000", None), ("9F80100000", "length")):
-            self.assertEqual(fault(host.read_apdu, octets(apdu)), kind, apdu)
+            self.assertEqual(fault(host.read_apdu, host.Reader(octets(apdu))), kind, apdu)
 
     def test_identifiers(self):
         self.assertTrue(host.matches(0x00010041, 0x00010042))
@@ -236,30 +238,64 @@ class Random(unittest.TestCase):
                 for slot in shelf.host.slots:
                     check_record(self, slot)
 
-    def test_scripts_reach_every_refusal_and_object(self):
-        reached = Counter()
-
-        class Watched(host.Host):
-            def _take_tpdu(self, turn, tpdu):
-                connection = self.slots[turn.slot].connections[turn.connection]
-                reached[connection.state, tpdu.tag] += 1
-                super()._take_tpdu(turn, tpdu)
-
+    def test_scripts_reach_nearly_all_that_is_named(self):
+        seen = Counter()
         for seed in range(60):
-            shelf = Shelf()
-            shelf.host = Watched(shelf.host.resource)
-            for line in Generator(seed, 300).script().split(b"\n"):
-                answer = shelf.answer(line)
-                if answer and "refused" in answer:
-                    reached[answer.partition("refused ")[2]] += 1
-        refusals = [*map(str, (1, 2, 3, 4, 5, 6, 7, 8, 10, 12, 13, 15)), "17 01"]
-        refusals += [f"9 {kind}" for kind in ("short", "long", "connection", "mark")]
-        refusals += [f"11 {kind}" for kind in ("tag", "length", "content")]
-        refusals += [f"{number} {kind}" for number in (14, 16) for kind in ("tag", "length")]
-        pairs = [(state, tag) for state in host.HEARING
-                 for tag in (None, 0x83, 0x84, 0x85, 0x86, 0xA0, 0xA1)]
-        self.assertEqual([wanted for wanted in refusals + pairs if not reached[wanted]], [])
-        self.assertEqual(len(reached), len(refusals + pairs))
+            script = Generator(seed, 300).script()
+            watched = Watched()
+            printed = list(play(watched, io.BytesIO(script)))
+            self.assertEqual(printed, list(play(Shelf(), io.BytesIO(script))))
+            seen += watched.seen
+        self.assertEqual(seen.keys() - set(NAMES), set())
+        always = GROUPS["Answers"] + GROUPS["Commands"] + GROUPS["Limits"] + GROUPS["Lines"]
+        self.assertEqual([name for name in always if not seen[name]], [])
+        self.assertLess(sum(not seen[name] for name in NAMES), 20)
+
+
+class Tally(unittest.TestCase):
+    def reached(self, *lines):
+        """What the last of some lines reaches."""
+        watched = Watched()
+        for line in lines:
+            watched.seen.clear()
+            watched.answer(line.encode())
+        return set(watched.seen)
+
+    def test_names_are_told_once(self):
+        self.assertEqual(len(NAMES), len(set(NAMES)))
+
+    def test_reply_in_long_forms(self):
+        self.assertEqual(
+            self.reached("plug 0 16", "next 0 1", "feed 0 1 01 80 83 81",
+                         "feed 0 1 01 00 01 01 80 82 00 02 01 80"),
+            {"feed ok", "feed in Creating, turn out", "Creating met 83 on 1", "83 in fragments",
+             "length of object 81 where less would do", "length of status 82 where less would do"})
+
+    def test_refused_before_the_status_is_read(self):
+        self.assertEqual(
+            self.reached("plug 0 16", "next 0 1", "feed 0 1 01 00 83 83 00 00 01 01 80 02 01 00"),
+            {"feed refused 11 length", "feed in Creating, turn out", "length of object 83"})
+
+    def test_old_turn_and_rooms(self):
+        lines = ["plug 0 16", "next 0 1", "pull 0", "plug 0 16"]
+        self.assertEqual(self.reached(*lines), {"plug ok", "plug of size 16",
+                                                "plug with turn 1 out"})
+        lines += ["expire 0 1"]
+        self.assertEqual(self.reached(*lines), {"expire ok", "expire in Create due, turn out"})
+        lines += ["next 0 1 4"]
+        self.assertEqual(self.reached(*lines), {"next refused 7", "next in Create due",
+                                                "room of one less for one LPDU"})
+        lines += ["next 0 1 5"]
+        self.assertEqual(self.reached(*lines), {"next sent", "next in Create due",
+                                                "next sent 82 on 1",
+                                                "room of just enough for one LPDU"})
+
+    def test_chain(self):
+        lines = ["plug 0 16", "next 0 1", "feed 0 1 01 00 83 01 01 80 02 01 00", "next 0 1",
+                 "feed 0 1 01 00 A1 04 01 91 04 00 80 02 01 00", "next 0 1",
+                 "feed 0 1 01 00 A0 04 01 01 00 41 80 02 01 00"]
+        self.assertLessEqual({"91 in a chain", "length of SPDU in one byte",
+                              "Active met A0 on 1"}, self.reached(*lines))
 
 
 if __name__ == "__main__":
