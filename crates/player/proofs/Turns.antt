@@ -1,5 +1,5 @@
 -- A player holds just the turns that are out.
-use Rattle.std.proofs.Common.{◌≡◌, ℕ, zero, suc, ◌<◌, ◌≤◌, Bool, true, false, cond, not, ◌&&◌, ◌||◌, eqb, ltb, leb, ◌⊎◌, List, [], ◌∷◌, ◌++◌, map, length, get_or, take, drop, set, is_ok, Some, None, Ok, Err, Option, Result, sym, refl, ap, ◌∙◌, subst, inl, inr, ⊎_elim, arith}
+use Rattle.std.proofs.Common.{◌≡◌, ℕ, zero, suc, ◌<◌, ◌≤◌, Bool, true, false, cond, not, ◌&&◌, ◌||◌, eqb, ltb, leb, ◌⊎◌, List, [], ◌∷◌, map, length, get_or, set, is_ok, Some, None, Ok, Err, Option, Result, sym, refl, ap, ◌∙◌, subst, inl, inr, ⊎_elim, arith}
 use mathlib.Core.Bool.{Bool-set}
 use mathlib.Core.Logic.{∥∥₁_elim}
 use Rattle.std.proofs.lemmas.Bool.{eqb-true, eqb-false, eq-eqb, ne_eqb, le-leb, le-ltb, lt-leb, and_parts, cases_eq, cases_lt, cond_both, ltb-true, ltb-false, leb-true}
@@ -18,17 +18,17 @@ use Rattle.protocol.specs.Runs.{Call, clock, at, answer, step, answer_of, stand_
 use Rattle.protocol.proofs.Slots.{fresh_sound}
 use Rattle.protocol.proofs.Stands.{stands_step}
 use Rattle.sound.specs.declared.Slot.{Slot}
+use Rattle.slot.specs.Stand.{plainly}
 use Rattle.host.specs.declared.turn.Turn.{Turn}
 use Rattle.host.specs.declared.turn.host.Host.{Host}
 use Rattle.host.specs.View.{seen, slot_at, view, Called}
 use Rattle.sending.specs.Next.{written}
 use Rattle.player.specs.declared.Answer as code
-use Rattle.player.specs.declared.Answer.TheVariants.{Done, More, Sent}
 use Rattle.player.specs.declared.hand.Hand.{Hand}
 use Rattle.player.specs.declared.desk.Desk.{Desk}
 use Rattle.player.specs.Marks.{mark_after}
 use Rattle.player.specs.Hands.{place, turn_at, handed, taken}
-use Rattle.player.specs.Play.{answered, with_turn, told_by, reply, tied, Tied, Played}
+use Rattle.player.specs.Play.{told, with_turn, told_by, reply, tied, Tied, Played}
 use Rattle.player.proofs.Marks.{marked}
 
 -- every slot's record is sound
@@ -92,16 +92,9 @@ abbrev as_answer : Result Turn Refusal → Result Answer Refusal
 as_answer (Ok t) = Ok done
 as_answer (Err e) = Err e
 
--- a buffer that nothing was written to is as any answer has it
-front_rest : (n : ℕ) (out : List ℕ) → out ≡ take n out ++ drop (length (take n out)) out
-front_rest zero out = refl
-front_rest (suc n) [] = refl
-front_rest (suc n) (x ∷ out) = ap (λ l. x ∷ l) (front_rest n out)
-
-pub nothing_written : (r : Result code.Answer Refusal) (out : List ℕ) → out ≡ written (answered r out) out
-nothing_written (Ok Done) out = refl
-nothing_written (Ok More) out = refl
-nothing_written (Ok (Sent n turn)) out = front_rest n out
+-- a call that tells no more than that it is served writes nothing
+pub nothing_written : (r : Result Unit Refusal) (out : List ℕ) → out ≡ written (plainly r) out
+nothing_written (Ok u) out = refl
 nothing_written (Err e) out = refl
 
 module _ {S : Type 0} (M : Meaning S) (law : Lawful M) where
@@ -135,8 +128,15 @@ module _ {S : Type 0} (M : Meaning S) (law : Lawful M) where
       go false = refl
 
   -- a call to the host that a player makes as it is
-  pub plays : (c : Call) (r r' : Result Answer Refusal) (h h' : Host S) → r' ≡ r → answer M (M.made h.resource) c (view M h) ≡ reply M (M.made h.resource) c (view M h) → Called M c r h h' → Played M c r' h h'
-  plays c r r' h h' e same k = record { answers = e ∙ k.answers ∙ same; after = k.after; made = k.made; stands = k.stands }
+  pub plays : (c : Call) (d : Result Answer Refusal) (r : Result code.Answer Refusal) (out out' : List ℕ) (h h' : Host S) → r ≡ told d → out' ≡ written d out → answer M (M.made h.resource) c (view M h) ≡ reply M (M.made h.resource) c (view M h) → Called M c d h h'
+      → Played M c r out out' h h'
+  plays c d r out out' h h' e b same k = record {
+    answer = e ∙ ap told (k.answers ∙ same);
+    bytes = b ∙ ap (λ z. written z out) (k.answers ∙ same);
+    after = k.after;
+    made = k.made;
+    stands = k.stands;
+  }
 
   -- hand and marks as they were
   pub keeps : (d d' : Desk S) → d'.hand.turns ≡ d.hand.turns → ((s k : ℕ) → s < 4 → ((slot_at d'.host s).conn k).out ≡ ((slot_at d.host s).conn k).out) → Tied d → Tied d'
@@ -194,10 +194,11 @@ module _ {S : Type 0} (M : Meaning S) (law : Lawful M) where
   abbrev pub Lacks : Host S → ℕ → ℕ → Type 0
   Lacks h i c = (ltb 3 i ≡ true) ⊎ ((valid c ≡ false) ⊎ (((slot_at h i).conn c).out ≡ false))
 
-  idle_played : (h : Host S) (i c : ℕ) (a : Act) (e : Refusal) → Err e ≡ told_by i a (slot_at h i) (answer M (M.made h.resource) (at i a) (view M h)) → Lacks h i c
-      → ((valid c ≡ false) ⊎ (((slot_at h i).conn c).out ≡ false) → stand_of (view M h i) (act M (M.made h.resource) i a (view M h i)) ≡ view M h i) → Played M (at i a) (Err e) h h
-  idle_played h i c a e told why idle = record {
-    answers = told;
+  idle_played : (h : Host S) (i c : ℕ) (a : Act) (e : Refusal) (out : List ℕ) → Err e ≡ told_by i a (slot_at h i) (answer M (M.made h.resource) (at i a) (view M h)) → Lacks h i c
+      → ((valid c ≡ false) ⊎ (((slot_at h i).conn c).out ≡ false) → stand_of (view M h i) (act M (M.made h.resource) i a (view M h i)) ≡ view M h i) → Played M (at i a) (Err e) out out h h
+  idle_played h i c a e out refused why idle = record {
+    answer = ap told refused;
+    bytes = ap (λ z. written z out) refused;
     after = after;
     made = refl;
     stands = λ calls k. stands_step M made law calls (at i a) (view M h) (view M h) k after;
@@ -217,11 +218,11 @@ module _ {S : Type 0} (M : Meaning S) (law : Lawful M) where
       after : (s : ℕ) → s < 4 → view M h s ≡ step M made (at i a) (view M h) s
       after s lt = ⊎_elim (λ (p : ltb 3 i ≡ true). off s (eqb s i) p) (λ (w : (valid c ≡ false) ⊎ (((slot_at h i).conn c).out ≡ false)). here s (eqb s i) refl (idle w)) why
 
-  pub feed_lacks : (h : Host S) (i c : ℕ) (lpdu : List ℕ) (e : Refusal) → ((r : Result Answer Refusal) → Err e ≡ with_turn i c (slot_at h i) r) → Lacks h i c → Played M (at i (feed c lpdu)) (Err e) h h
-  feed_lacks h i c lpdu e told why = idle_played h i c (feed c lpdu) e (told _) why (feed_idle (M.made h.resource) i c (view M h i) lpdu)
+  pub feed_lacks : (h : Host S) (i c : ℕ) (lpdu : List ℕ) (e : Refusal) (out : List ℕ) → ((r : Result Answer Refusal) → Err e ≡ with_turn i c (slot_at h i) r) → Lacks h i c → Played M (at i (feed c lpdu)) (Err e) out out h h
+  feed_lacks h i c lpdu e out refused why = idle_played h i c (feed c lpdu) e out (refused _) why (feed_idle (M.made h.resource) i c (view M h i) lpdu)
 
-  pub expire_lacks : (h : Host S) (i c : ℕ) (e : Refusal) → ((r : Result Answer Refusal) → Err e ≡ with_turn i c (slot_at h i) r) → Lacks h i c → Played M (at i (expire c)) (Err e) h h
-  expire_lacks h i c e told why = idle_played h i c (expire c) e (told _) why (expire_idle (M.made h.resource) i c (view M h i))
+  pub expire_lacks : (h : Host S) (i c : ℕ) (e : Refusal) (out : List ℕ) → ((r : Result Answer Refusal) → Err e ≡ with_turn i c (slot_at h i) r) → Lacks h i c → Played M (at i (expire c)) (Err e) out out h h
+  expire_lacks h i c e out refused why = idle_played h i c (expire c) e out (refused _) why (expire_idle (M.made h.resource) i c (view M h i))
 
   -- a turn that is not to be had
   pub record NoTurn (d : Desk S) (i c : ℕ) (e : Refusal) (ts : List (Option Turn)) : Type 0 where

@@ -1,3 +1,4 @@
 pub mod Marks
 pub mod Hands
 pub mod Play
+pub mod Plays

@@ -1,5 +1,5 @@
 -- What a player answers, and what it leaves of its host.
-use Rattle.std.specs.Prelude.{◌≡◌, ℕ, ◌<◌, Bool, true, cond, not, ◌&&◌, List, [], ◌∷◌, ◌++◌, take, Some, None, Ok, Err, Option, Result, ◌==◌, nat_le, nat_lt}
+use Rattle.std.specs.Prelude.{◌≡◌, ℕ, ◌<◌, Bool, true, cond, not, ◌&&◌, List, [], ◌∷◌, ◌++◌, length, Some, None, Ok, Err, Option, Result, ◌==◌, nat_le, nat_lt}
 use Rattle.refusal.specs.declared.Refusal.{Refusal}
 use Rattle.refusal.specs.declared.Refusal.TheVariants as no
 use Rattle.resource.specs.Meaning.{Meaning}
@@ -10,6 +10,7 @@ use Rattle.protocol.specs.Calls as def
 use Rattle.protocol.specs.Runs.{clock, at, Shelf, step}
 use Rattle.protocol.specs.Runs as runs
 use Rattle.protocol.specs.Laws.{Stands}
+use Rattle.sending.specs.Next.{written}
 use Rattle.host.specs.declared.turn.Turn.{Turn}
 use Rattle.host.specs.declared.turn.host.Host.{Host}
 use Rattle.host.specs.View.{view, slot_at}
@@ -30,11 +31,12 @@ call_of (Next s c) lpdu room = at s (next c room)
 call_of (Feed s c) lpdu room = at s (feed c lpdu)
 call_of (Expire s c) lpdu room = at s (expire c)
 
-abbrev pub answered : Result Answer Refusal → List ℕ → Result def.Answer Refusal
-answered (Ok Done) out = Ok done
-answered (Ok More) out = Ok turn_back
-answered (Ok (Sent n turn)) out = Ok (wrote (take n out) turn)
-answered (Err e) out = Err e
+-- an answer as a player gives it: how many bytes were written, in place of the bytes
+abbrev pub told : Result def.Answer Refusal → Result Answer Refusal
+told (Ok done) = Ok Done
+told (Ok turn_back) = Ok More
+told (Ok (wrote bs turn)) = Ok (Sent (length bs) turn)
+told (Err e) = Err e
 
 -- feed and expire are refused where the turn is not out
 abbrev pub with_turn : ℕ → ℕ → Slot → Result def.Answer Refusal → Result def.Answer Refusal
@@ -63,9 +65,10 @@ module _ {S : Type 0} (M : Meaning S) where
   reply made (clock t) h = runs.answer M made (clock t) h
   reply made (at s a) h = told_by s a (h s).slot (runs.answer M made (at s a) h)
 
-  -- a call to a player: each slot is the definition's, what the resource is made of stays, and what stood for a list of calls stands for the list with this call
-  pub record Played (c : runs.Call) (r : Result def.Answer Refusal) (h h' : Host S) : Type 0 where
-    pub answers : r ≡ reply (M.made h.resource) c (view M h)
+  -- a call to a player: what it answers and leaves in the out buffer are the reply's, each slot is the definition's, what the resource is made of stays, and what stood for a list of calls stands for the list with this call
+  pub record Played (c : runs.Call) (r : Result Answer Refusal) (out out' : List ℕ) (h h' : Host S) : Type 0 where
+    pub answer : r ≡ told (reply (M.made h.resource) c (view M h))
+    pub bytes : out' ≡ written (reply (M.made h.resource) c (view M h)) out
     pub after : (s : ℕ) → s < 4 → view M h' s ≡ step M (M.made h.resource) c (view M h) s
     pub made : M.made h'.resource ≡ M.made h.resource
     pub stands : (calls : List runs.Call) → Stands M (M.made h.resource) calls (view M h) → Stands M (M.made h.resource) (calls ++ c ∷ []) (view M h')

@@ -3,9 +3,8 @@ ghost use Rattle.std.specs.Prelude.{◌≡◌, ℕ, ◌<◌, List, length, Some,
 ghost use Rattle.protocol.specs.Calls.{next as nexts, feed as feeds, expire as expires};
 ghost use Rattle.protocol.specs.Runs.{at as named};
 ghost use Rattle.slot.specs.Stand.{plainly};
-ghost use Rattle.sending.specs.Next.{written};
 ghost use Rattle.player.specs.Hands.{place, turn_at};
-ghost use Rattle.player.specs.Play.{call_of, answered, Tied, Played};
+ghost use Rattle.player.specs.Play.{call_of, told, Tied, Played};
 
 use crate::hand::Hand;
 use crate::{Answer, Call};
@@ -31,8 +30,7 @@ impl<R: Resource> Desk<R> {
     // Any call.
     pub fn call(&mut self, call: Call, lpdu: &[u8], out: &mut [u8]) -> Result<Answer, Refusal>
         requires { Tied self.old }
-        ensures played { Played R.Resource.meaning (call_of call lpdu.now (length out.old)) (answered result out.new) self.old.host self.new.host }
-        ensures bytes { out.new ≡ written (answered result out.new) out.old }
+        ensures played { Played R.Resource.meaning (call_of call lpdu.now (length out.old)) result out.old out.new self.old.host self.new.host }
         ensures tied { Tied self.new }
     {
         match call {
@@ -60,8 +58,7 @@ impl<R: Resource> Desk<R> {
 
     fn next(&mut self, slot: u8, connection: u8, out: &mut [u8]) -> Result<Answer, Refusal>
         requires { Tied self.old }
-        ensures played { Played R.Resource.meaning (named slot (nexts connection (length out.old))) (answered result out.new) self.old.host self.new.host }
-        ensures bytes { out.new ≡ written (answered result out.new) out.old }
+        ensures played { Played R.Resource.meaning (named slot (nexts connection (length out.old))) result out.old out.new self.old.host self.new.host }
         ensures tied { Tied self.new }
     {
         let Next { length, turn } = self.host.next(slot, connection, out)?;
@@ -74,7 +71,7 @@ impl<R: Resource> Desk<R> {
 
     fn feed(&mut self, slot: u8, connection: u8, lpdu: &[u8]) -> Result<Answer, Refusal>
         requires { Tied self.old }
-        ensures played { (out : List ℕ) → Played R.Resource.meaning (named slot (feeds connection lpdu.now)) (answered result out) self.old.host self.new.host }
+        ensures played { (out : List ℕ) → Played R.Resource.meaning (named slot (feeds connection lpdu.now)) result out out self.old.host self.new.host }
         ensures tied { Tied self.new }
     {
         let turn = self.hand.take(slot, connection)?;
@@ -93,7 +90,7 @@ impl<R: Resource> Desk<R> {
 
     fn expire(&mut self, slot: u8, connection: u8) -> Result<Answer, Refusal>
         requires { Tied self.old }
-        ensures played { (out : List ℕ) → Played R.Resource.meaning (named slot (expires connection)) (answered result out) self.old.host self.new.host }
+        ensures played { (out : List ℕ) → Played R.Resource.meaning (named slot (expires connection)) result out out self.old.host self.new.host }
         ensures tied { Tied self.new }
     {
         let turn = self.hand.take(slot, connection)?;
@@ -104,7 +101,7 @@ impl<R: Resource> Desk<R> {
 
 // A call that tells no more than that it is served.
 fn done(r: Result<(), Refusal>) -> Result<Answer, Refusal>
-    ensures { (out : List ℕ) → answered result out ≡ plainly r }
+    ensures { result ≡ told (plainly r) }
 {
     r.map(|()| Answer::Done)
 }

@@ -1,6 +1,8 @@
 // A player: a host with the turns that it handed out.
 #![tactic(auto)]
 
+use refusal::Refusal;
+
 mod desk;
 mod hand;
 pub mod player;
@@ -23,4 +25,13 @@ pub enum Answer {
     Done,
     More,
     Sent(usize, bool),
+}
+
+// A call of a list, with the LPDU of a feed and the out buffer of a next, which has room for every command; and, once it is played, its answer.
+#[derive(Clone, Copy)]
+pub struct Entry<'a> {
+    pub call: Call,
+    pub lpdu: &'a [u8],
+    pub out: [u8; 152],
+    pub answer: Option<Result<Answer, Refusal>>,
 }

@@ -1,12 +1,15 @@
 // The player.
-ghost use Rattle.std.specs.Prelude.{◌≡◌, length};
-ghost use Rattle.sending.specs.Next.{written};
-ghost use Rattle.host.specs.View.{Begun};
-ghost use Rattle.player.specs.Play.{call_of, answered, Tied, Played};
+ghost use Rattle.std.specs.Prelude.{◌≡◌, ℕ, ◌<◌, [], ◌∷◌, map, length};
+ghost use Rattle.resource.specs.Duties.{New};
+ghost use Rattle.protocol.specs.Runs.{run};
+ghost use Rattle.protocol.specs.Laws.{Stands};
+ghost use Rattle.host.specs.View.{Begun, view};
+ghost use Rattle.player.specs.Play.{call_of, Tied, Played};
+ghost use Rattle.player.specs.Plays.{call_in, entries_left, started, PlayedAll};
 
 use crate::desk::Desk;
 use crate::hand::Hand;
-use crate::{Answer, Call};
+use crate::{Answer, Call, Entry};
 use host::turn::host::Host;
 use refusal::Refusal;
 use resource::Resource;
@@ -39,10 +42,37 @@ impl<R: Resource> Player<R> {
 
     // A call, with the LPDU of a feed and the out buffer of a next.
     pub fn call(&mut self, call: Call, lpdu: &[u8], out: &mut [u8]) -> Result<Answer, Refusal>
-        ensures played { Played R.Resource.meaning (call_of call lpdu.now (length out.old)) (answered result out.new) self.old.desk.host self.new.desk.host }
-        ensures bytes { out.new ≡ written (answered result out.new) out.old }
+        ensures { Played R.Resource.meaning (call_of call lpdu.now (length out.old)) result out.old out.new self.old.desk.host self.new.desk.host }
     {
         self.desk.call(call, lpdu, out)
+    }
+
+    // Plays a list of calls on a new host over a resource.
+    pub fn play(resource: R, entries: &mut [Entry<'_>]) -> Player<R>
+        ensures answers { entries.new ≡ entries_left R.Resource.meaning (R.Resource.meaning.made resource) entries.old (started R.Resource.meaning resource) }
+        ensures after { (s : ℕ) → s < 4 → view R.Resource.meaning result.desk.host s ≡ run R.Resource.meaning (R.Resource.meaning.made resource) (map call_in entries.old) (started R.Resource.meaning resource) s }
+        ensures made { R.Resource.meaning.made result.desk.host.resource ≡ R.Resource.meaning.made resource }
+        ensures stands { New R.Resource.meaning resource → Stands R.Resource.meaning (R.Resource.meaning.made resource) (map call_in entries.old) (view R.Resource.meaning result.desk.host) }
+    {
+        let mut player = Player::new(resource);
+        player.play_on(entries);
+        player
+    }
+
+    // Plays a list of calls.
+    #[tactic(auto, using(crate::proofs::Lists::played_to_none, crate::proofs::Lists::played_to_all))]
+    pub fn play_on(&mut self, entries: &mut [Entry<'_>])
+        ensures { PlayedAll R.Resource.meaning entries.old entries.new self.old.desk.host self.new.desk.host }
+    {
+        for entry in entries.iter_mut() {
+            self.enter(entry);
+        }
+    }
+
+    fn enter(&mut self, entry: &mut Entry<'_>)
+        ensures { PlayedAll R.Resource.meaning (entry.old ∷ []) (entry.new ∷ []) self.old.desk.host self.new.desk.host }
+    {
+        entry.answer = Some(self.call(entry.call, entry.lpdu, &mut entry.out));
     }
 
     pub fn host(&self) -> &Host<R>

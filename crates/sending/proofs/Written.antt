@@ -75,6 +75,7 @@ pub record Wrote (bs out out' : List ℕ) (n : ℕ) : Type 0 where
   pub fits : ltb (length out) (length bs) ≡ false
   pub front : take n out' ≡ bs
   pub whole : out' ≡ bs ++ drop (length bs) out
+  pub inside : n ≤ length out'
 
 pub wrote_some : (bs out out' : List ℕ) (n : ℕ) → fitting bs out ≡ (Some n, out') → Wrote bs out out' n
 wrote_some bs out out' n e = go (ltb (length out) (length bs)) refl e
@@ -85,7 +86,7 @@ wrote_some bs out out' n e = go (ltb (length out) (length bs)) refl e
         let p : Some (length bs) ≡ Some n = ap (λ z. z.0) e in
         let same : length bs ≡ n = cc in
         let all : bs ++ drop (length bs) out ≡ out' = ap (λ z. z.1) e in
-        record { fits = t; front = ap (take n) (sym all) ∙ take_at bs (drop (length bs) out) n same; whole = sym all }
+        record { fits = t; front = ap (take n) (sym all) ∙ take_at bs (drop (length bs) out) n same; whole = sym all; inside = omega (arith, ap length all, length-append bs (drop (length bs) out)) }
 
 pub wrote_none : (bs out out' : List ℕ) → fitting bs out ≡ (None, out') → (ltb (length out) (length bs) ≡ true) × (out' ≡ out)
 wrote_none bs out out' e = go (ltb (length out) (length bs)) refl e

@@ -1,7 +1,7 @@
 // What a connection sends: the command that is due, written as link units.
 #![tactic(auto)]
 
-ghost use Rattle.std.specs.Prelude.{◌≡◌, ◌≤◌, length, is_some};
+ghost use Rattle.std.specs.Prelude.{◌≡◌, ◌≤◌, length, is_some, IfOk};
 ghost use Rattle.lpdu.specs.Fragments.{write_lpdus as lpdus_written};
 ghost use Rattle.tpdu.specs.declared.Command.TheVariants.{Data};
 ghost use Rattle.tpdu.specs.Commands.{write_command as command_bytes};
@@ -232,6 +232,7 @@ impl<'a, R: Resource> Place<'a, R> {
         ensures same_reference { self.new.record.ghost_name ≡ self.old.record.ghost_name }
         ensures did { Serves R.Resource.meaning self.old.at (λ made k st. write_in R.Resource.meaning made k (length out.old) (lpdus self.old.c.number size.bytes due) (due_of self.old.c.number due st)) (sent_of result out.new) self.old.record.now self.old.resource.now self.new.record.now self.old.resource.now }
         ensures bytes { out.new ≡ written (sent_of result out.new) out.old }
+        ensures inside { IfOk result (λ sent. sent.length ≤ length out.new) }
         ensures whose { Whose self.old.c.number result }
     {
         let c = self.c;
@@ -247,6 +248,7 @@ impl<'a, R: Resource> Place<'a, R> {
         ensures same_reference { self.new.record.ghost_name ≡ self.old.record.ghost_name }
         ensures did { Did R.Resource.meaning self.old.at (nexts self.old.c.number (length out.old)) (sent_of result out.new) self.old.record.now self.old.resource.now self.new.record.now self.old.resource.now }
         ensures bytes { out.new ≡ written (sent_of result out.new) out.old }
+        ensures inside { IfOk result (λ sent. sent.length ≤ length out.new) }
         ensures whose { Whose self.old.c.number result }
     {
         let size = self.record.agreed().ok_or(Refusal::Presence)?;
@@ -268,6 +270,7 @@ pub fn next<R: Resource>(
 ) -> Result<Sent, Refusal>
     ensures did { Did R.Resource.meaning at (nexts connection (length out.old)) (sent_of result out.new) slot.old resource.now slot.new resource.now }
     ensures bytes { out.new ≡ written (sent_of result out.new) out.old }
+    ensures inside { IfOk result (λ sent. sent.length ≤ length out.new) }
     ensures whose { Whose connection result }
 {
     let c = ConnectionId::new(connection).ok_or(Refusal::Connection)?;

@@ -1,7 +1,7 @@
 // A slot: its record, which is always sound, and every call on it.
 #![tactic(auto)]
 
-ghost use Rattle.std.specs.Prelude.{◌≡◌, length, Ok};
+ghost use Rattle.std.specs.Prelude.{◌≡◌, ◌≤◌, length, Ok, IfOk};
 ghost use Rattle.protocol.specs.Record.{fresh};
 ghost use Rattle.protocol.specs.Sound.{Sound};
 ghost use Rattle.protocol.specs.Calls.{plug as plugs, pull as pulls, end as ends, next as nexts, feed as feeds, expire as expires, done};
@@ -77,6 +77,7 @@ impl Slot {
     ) -> Result<Sent, Refusal>
         ensures did { Did R.Resource.meaning at.number (nexts connection (length out.old)) (sent_of result out.new) self.old.kept resource.now self.new.kept resource.now }
         ensures bytes { out.new ≡ written (sent_of result out.new) out.old }
+        ensures inside { IfOk result (λ sent. sent.length ≤ length out.new) }
         ensures whose { Whose connection result }
     {
         sending::next(&mut self.kept, resource, at.get(), connection, out)

@@ -1,5 +1,5 @@
 // The host: four slots over one resource.
-ghost use Rattle.std.specs.Prelude.{◌≡◌, length, Ok, Err, IfOk, IfErr};
+ghost use Rattle.std.specs.Prelude.{◌≡◌, ◌≤◌, length, Ok, Err, IfOk, IfErr};
 ghost use Rattle.protocol.specs.Calls.{Act, plug as plugs, pull as pulls, end as ends, next as nexts, feed as feeds, expire as expires, done};
 ghost use Rattle.protocol.specs.Runs.{at as named, clock as clocked, time_fits as time_fitting, digits};
 ghost use Rattle.slot.specs.Stand.{plainly};
@@ -74,6 +74,7 @@ impl<R: Resource> Host<R> {
     pub fn next(&mut self, slot: u8, connection: u8, out: &mut [u8]) -> Result<Next, Refusal>
         ensures called { Called R.Resource.meaning (named slot (nexts connection (length out.old))) (next_of result out.new) self.old self.new }
         ensures bytes { out.new ≡ written (next_of result out.new) out.old }
+        ensures inside { IfOk result (λ next. next.length ≤ length out.new) }
         ensures whose { Whose slot connection result }
     {
         let at = self.slot(slot)?;

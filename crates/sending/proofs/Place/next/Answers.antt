@@ -20,5 +20,6 @@ returns g c =
       same_reference = c.write.ensures.same_reference;
       did = record { answer = c.write.ensures.did.answer ∙ ap answer_of told; after = c.write.ensures.did.after ∙ ap (stand_of st) told; kept = c.write.ensures.did.kept };
       bytes = c.write.ensures.bytes;
+      inside = c.write.ensures.inside;
       whose = c.write.ensures.whose;
     }

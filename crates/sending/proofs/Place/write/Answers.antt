@@ -31,6 +31,7 @@ returns-in_err-length g c =
       same_reference = refl;
       did = record { answer = ap answer_of told; after = ap (stand_of st) told; kept = kept_same M c.args.self.now.at r };
       bytes = w.1;
+      inside = tt;
       whose = tt;
     })
 
@@ -52,5 +53,6 @@ returns g c =
       same_reference = c.spend.ensures.same_reference;
       did = record { answer = said ∙ ap answer_of told; after = c.spend.ensures.left ∙ ap (stand_of st) told; kept = kept_same M c.args.self.now.at r };
       bytes = w.whole ∙ sym (ap (λ a. written a out) said);
+      inside = w.inside;
       whose = c.turn.ensures.whose;
     }

@@ -10,10 +10,10 @@ returns-in-Clock g c =
     let M = g.R.Resource.meaning in
     let law = g.R.Resource.laws in
     let d = c.args.self.now in
+    let out = c.args.out.now in
     let h' = c.clock.new.self in
     rw c.in-Clock.is (record {
-      played = plays M law (clock c.in-Clock.time) (plainly c.clock.result) _ d.host h' (c.done.ensures c.args.out.now) refl c.clock.ensures;
-      bytes = nothing_written c.done.result c.args.out.now;
+      played = plays M law (clock c.in-Clock.time) (plainly c.clock.result) _ out out d.host h' c.done.ensures (nothing_written c.clock.result out) refl c.clock.ensures;
       tied = keeps M law d (record { host = h'; hand = d.hand }) refl (clock_marks M law d.host h' c.in-Clock.time (plainly c.clock.result) c.clock.ensures) c.requires;
     })
 
@@ -22,10 +22,10 @@ returns-in-Plug g c =
     let M = g.R.Resource.meaning in
     let law = g.R.Resource.laws in
     let d = c.args.self.now in
+    let out = c.args.out.now in
     let h' = c.plug.new.self in
     rw c.in-Plug.is (record {
-      played = plays M law (at c.in-Plug.slot (plug c.in-Plug.size)) (plainly c.plug.result) _ d.host h' (c.done-in-Plug.ensures c.args.out.now) refl c.plug.ensures;
-      bytes = nothing_written c.done-in-Plug.result c.args.out.now;
+      played = plays M law (at c.in-Plug.slot (plug c.in-Plug.size)) (plainly c.plug.result) _ out out d.host h' c.done-in-Plug.ensures (nothing_written c.plug.result out) refl c.plug.ensures;
       tied = still M law d (record { host = h'; hand = d.hand }) c.in-Plug.slot (plug c.in-Plug.size) (plainly c.plug.result) refl (λ k o. refl) c.plug.ensures c.requires;
     })
 
@@ -34,10 +34,10 @@ returns-in-Pull g c =
     let M = g.R.Resource.meaning in
     let law = g.R.Resource.laws in
     let d = c.args.self.now in
+    let out = c.args.out.now in
     let h' = c.pull.new.self in
     rw c.in-Pull.is (record {
-      played = plays M law (at c.in-Pull.slot pull) (plainly c.pull.result) _ d.host h' (c.done-in-Pull.ensures c.args.out.now) refl c.pull.ensures;
-      bytes = nothing_written c.done-in-Pull.result c.args.out.now;
+      played = plays M law (at c.in-Pull.slot pull) (plainly c.pull.result) _ out out d.host h' c.done-in-Pull.ensures (nothing_written c.pull.result out) refl c.pull.ensures;
       tied = still M law d (record { host = h'; hand = d.hand }) c.in-Pull.slot pull (plainly c.pull.result) refl (λ k o. refl) c.pull.ensures c.requires;
     })
 
@@ -46,15 +46,15 @@ returns-in-End g c =
     let M = g.R.Resource.meaning in
     let law = g.R.Resource.laws in
     let d = c.args.self.now in
+    let out = c.args.out.now in
     let h' = c.end.new.self in
     rw c.in-End.is (record {
-      played = plays M law (at c.in-End.slot (end c.in-End.connection)) (plainly c.end.result) _ d.host h' (c.done-in-End.ensures c.args.out.now) refl c.end.ensures;
-      bytes = nothing_written c.done-in-End.result c.args.out.now;
+      played = plays M law (at c.in-End.slot (end c.in-End.connection)) (plainly c.end.result) _ out out d.host h' c.done-in-End.ensures (nothing_written c.end.result out) refl c.end.ensures;
       tied = still M law d (record { host = h'; hand = d.hand }) c.in-End.slot (end c.in-End.connection) (plainly c.end.result) refl (λ k o. refl) c.end.ensures c.requires;
     })
 
 pub returns-in-Feed : goal.returns-in-Feed
-returns-in-Feed g c = rw c.in-Feed.is (record { played = c.feed.ensures.played c.args.out.now; bytes = nothing_written c.feed.result c.args.out.now; tied = c.feed.ensures.tied })
+returns-in-Feed g c = rw c.in-Feed.is (record { played = c.feed.ensures.played c.args.out.now; tied = c.feed.ensures.tied })
 
 pub returns-in-Expire : goal.returns-in-Expire
-returns-in-Expire g c = rw c.in-Expire.is (record { played = c.expire.ensures.played c.args.out.now; bytes = nothing_written c.expire.result c.args.out.now; tied = c.expire.ensures.tied })
+returns-in-Expire g c = rw c.in-Expire.is (record { played = c.expire.ensures.played c.args.out.now; tied = c.expire.ensures.tied })

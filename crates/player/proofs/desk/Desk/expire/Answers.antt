@@ -2,6 +2,7 @@ use Rattle.std.proofs.Common.{Ok, refl}
 use Rattle.std.proofs.lemmas.Result.{err_from_is_err_and}
 use Rattle.protocol.specs.Calls.{expire, done}
 use Rattle.protocol.specs.Runs.{at}
+use Rattle.player.specs.declared.Answer.TheVariants.{Done}
 use Rattle.player.proofs.Turns.{plays, keeps, no_turn, a_turn, expire_lacks, as_named, spent_turn}
 use Rattle.player.proofs.desk.Desk.expire.Goals as goal
 
@@ -15,7 +16,7 @@ returns-in_err-turn g c =
     let p = err_from_is_err_and c.from_residual.result c.from_residual.ensures.1 in
     rw (p.1, p.2)
     (record {
-      played = λ out. expire_lacks M law d.host c.args.slot c.args.connection _ w.told w.why;
+      played = λ out. expire_lacks M law d.host c.args.slot c.args.connection _ out w.told w.why;
       tied = keeps M law d (record { host = d.host; hand = c.take.new.self }) w.same (λ s k lt. refl) c.requires;
     })
 
@@ -32,6 +33,6 @@ returns g c =
     let w = a_turn M law d i k t ts c.requires c.in_ok-turn.ensures in
     let called = as_named M law d i k t ts w expire (Ok done) h' c.expire.ensures in
     record {
-      played = λ out. plays M law (at i (expire k)) (Ok done) (Ok done) d.host h' refl (w.told _) called;
+      played = λ out. plays M law (at i (expire k)) (Ok done) (Ok Done) out out d.host h' refl refl (w.told _) called;
       tied = spent_turn M law d i k t ts w (expire k) (Ok done) h' c.take.new.self refl (λ n o. refl) called c.requires;
     }

@@ -3,6 +3,7 @@ use Rattle.std.proofs.lemmas.Result.{err_from_is_err_and}
 use Rattle.protocol.specs.Calls.{feed, done, turn_back}
 use Rattle.protocol.specs.Runs.{at}
 use Rattle.host.specs.View.{Called}
+use Rattle.player.specs.declared.Answer.TheVariants.{Done, More}
 use Rattle.player.proofs.Turns.{plays, keeps, still, no_turn, a_turn, feed_lacks, as_named, spent_turn, gone_turn, put_back}
 use Rattle.player.proofs.desk.Desk.feed.Goals as goal
 
@@ -16,7 +17,7 @@ returns-in_err-turn g c =
     let p = err_from_is_err_and c.from_residual.result c.from_residual.ensures.1 in
     rw (p.1, p.2)
     (record {
-      played = λ out. feed_lacks M law d.host c.args.slot c.args.connection c.args.lpdu.now _ w.told w.why;
+      played = λ out. feed_lacks M law d.host c.args.slot c.args.connection c.args.lpdu.now _ out w.told w.why;
       tied = keeps M law d (record { host = d.host; hand = c.take.new.self }) w.same (λ s k lt. refl) c.requires;
     })
 
@@ -34,7 +35,7 @@ returns-in-Done g c =
     let w = a_turn M law d i k t ts c.requires c.in_ok-turn.ensures in
     let called = as_named M law d i k t ts w (λ n. feed n bs) (Ok done) h' c.in-Done.ensures.called in
     record {
-      played = λ out. plays M law (at i (feed k bs)) (Ok done) (Ok done) d.host h' refl (w.told _) called;
+      played = λ out. plays M law (at i (feed k bs)) (Ok done) (Ok Done) out out d.host h' refl refl (w.told _) called;
       tied = spent_turn M law d i k t ts w (feed k bs) (Ok done) h' c.take.new.self refl (λ n o. refl) called c.requires;
     }
 
@@ -64,7 +65,7 @@ returns-in-More g c =
     let called = subst (λ h. Called M (at i (feed k bs)) (Ok turn_back) d.host h) (sym c.keep.ensures.host) named in
     let back = put_back M law d i k t ts w c.in-More.turn c.in-More.ensures.back d'.hand.turns c.keep.ensures.hand in
     record {
-      played = λ out. plays M law (at i (feed k bs)) (Ok turn_back) (Ok turn_back) d.host d'.host refl (w.told _) called;
+      played = λ out. plays M law (at i (feed k bs)) (Ok turn_back) (Ok More) out out d.host d'.host refl refl (w.told _) called;
       tied = still M law d d' i (feed k bs) (Ok turn_back) back (λ n o. refl) called c.requires;
     }
 
@@ -94,6 +95,6 @@ returns-in-Refused g c =
     let called = subst (λ h. Called M (at i (feed k bs)) (Err c.in-Refused.e) d.host h) (sym c.keep-in-Refused.ensures.host) named in
     let back = put_back M law d i k t ts w c.in-Refused.turn c.in-Refused.ensures.back d'.hand.turns c.keep-in-Refused.ensures.hand in
     record {
-      played = λ out. plays M law (at i (feed k bs)) (Err c.in-Refused.e) (Err c.in-Refused.e) d.host d'.host refl (w.told _) called;
+      played = λ out. plays M law (at i (feed k bs)) (Err c.in-Refused.e) (Err c.in-Refused.e) out out d.host d'.host refl refl (w.told _) called;
       tied = still M law d d' i (feed k bs) (Err c.in-Refused.e) back (λ n o. refl) called c.requires;
     }
