@@ -3,21 +3,15 @@
 
 #[cfg(test)]
 mod tests {
-    use date_time::DateTime;
     use host::turn::Line;
-    use information::Information;
-    use layers::pair::Pair;
-    use manager::Manager;
-    use named::Named;
     use player::player::Player;
     use player::{Answer, Call, Entry};
     use protocol::{Row, State};
     use refusal::Refusal;
+    use standard::{APPLICATION_INFORMATION, DATE_TIME, RESOURCE_MANAGER, Three, three};
     use std::alloc::{AllocError, Global};
     use std::process::Abort;
     use std::test::Fail;
-
-    const MANAGER: u32 = 0x00010041;
 
     // What a module says on connection 1.
     const CREATED: &[u8] = &[1, 0, 0x83, 1, 1, 0x80, 2, 1, 0];
@@ -39,14 +33,8 @@ mod tests {
 
     const GREETING: &[u8] = &[1, 0, 0xA0, 9, 1, 0x90, 2, 0, 1, 0x9F, 0x80, 0x10, 0];
 
-    type Resources = Pair<Pair<Named<Manager>, Named<Information>>, Named<DateTime>>;
-
-    fn resources() -> Resources {
-        let manager = Manager::resource(&[MANAGER, 0x00020041, 0x00240041]);
-        Pair::new(
-            Pair::new(manager, Information::resource()),
-            DateTime::resource(),
-        )
+    fn resources() -> Three {
+        three(&[RESOURCE_MANAGER, APPLICATION_INFORMATION, DATE_TIME])
     }
 
     // What came of a call; of a next, the bytes and whether it handed out a turn.
@@ -87,7 +75,7 @@ mod tests {
         rt: &impl Abort,
         alloc: Global,
         steps: &[Step<'_>],
-    ) -> Result<Player<Resources>, AllocError> {
+    ) -> Result<Player<Three>, AllocError> {
         let mut entries = Vec::new(alloc);
         for step in steps {
             entries.push(entry(step.0, step.1))?;
@@ -102,7 +90,7 @@ mod tests {
         Ok(player)
     }
 
-    fn line(player: &Player<Resources>, slot: u8, connection: u8) -> Option<(State, bool)> {
+    fn line(player: &Player<Three>, slot: u8, connection: u8) -> Option<(State, bool)> {
         player
             .host()
             .line(slot, connection)
@@ -216,7 +204,7 @@ mod tests {
         )?;
         let open = Row {
             connection: 1,
-            identifier: MANAGER,
+            identifier: RESOURCE_MANAGER,
             due: true,
         };
         assert_eq!(rt; player.host().session(3, 1), Some(open));
