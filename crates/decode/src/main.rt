@@ -18,6 +18,9 @@ const FRAGMENTS: usize = 1024;
 
 const CHAINED: usize = 2048;
 
+// How much of a line is kept: beside the longest a carriage return, and one byte more, so that what is too long stays so.
+const KEPT: usize = LONGEST + 2;
+
 // Where an LPDU goes: the slot, who sent it, and the connection.
 #[derive(Clone, Copy)]
 pub(crate) struct Way {
@@ -157,7 +160,7 @@ fn decode(rt: &HostRuntime) -> io::Result<()> {
         if byte == b'\n' {
             decoder.line(rt, line.as_slice())?;
             line.clear();
-        } else if line.len() <= LONGEST {
+        } else if line.len() < KEPT {
             line.push(byte)?;
         }
     }

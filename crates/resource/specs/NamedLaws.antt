@@ -1,4 +1,4 @@
--- Resource Manager, Application Information and Date-Time are lawful.
+-- What Resource Manager, Application Information and Date-Time say is in order, so that they are lawful by PlainLaws.
 use Rattle.std.specs.Prelude.{◌≡◌, ℕ, suc, ◌*◌, ◌%◌, ◌≤◌, Bool, true, false, cond, ◌&&◌, ltb, List, [], ◌∷◌, ◌++◌, length, take, drop, is_ok, Some, None, Ok, Err, Option, ◌==◌, nat_le, nat_lt, refl}
 use Rattle.std.proofs.Common.{ap, ◌∙◌, subst, arith}
 use Rattle.std.proofs.lemmas.Bool.{cond_both, cond-true, lt-ltb, le-leb}
@@ -11,11 +11,9 @@ use Rattle.apdu.specs.Application.{read_apdu}
 use Rattle.resource.specs.Tags as tag
 use Rattle.piece.specs.Objects.{is_object, IsObject}
 use Rattle.resource.specs.Meaning.{Reaction, Outcome, outcome}
-use Rattle.resource.specs.Lawful.{Lawful}
-use Rattle.resource.specs.Plain.{Keep, plain}
 use Rattle.resource.specs.Named.{object_of, if_fits, words, profile_answer, manager, is_information, information, time_answer, clock}
 use Rattle.resource.specs.Places.{no_some}
-use Rattle.resource.specs.PlainLaws.{Fine, Orderly, plain_lawful}
+use Rattle.resource.specs.PlainLaws.{Fine, Orderly}
 
 -- a length below 80, and that many bytes to the end
 whole_field : (body : List ℕ) (end : ℕ) → nat_lt (length body) 0x80 ≡ true
@@ -73,7 +71,7 @@ pub manager_orderly : Orderly manager
 manager_orderly = record {
   greets = λ bs. some_is IsObject (object_of tag.profile_enq []) bs refl;
   reacts = λ m t n a f.
-      fine_cond f (a.tag == tag.profile_enq) _ _ (fine_fits f (length a.body == 0) _ (fine_answer f _ _ ((profile_is (words (take 16 m)) (announced m)))))
+      fine_cond f (a.tag == tag.profile_enq) _ _ (fine_fits f (length a.body == 0) _ (fine_answer f _ _ (profile_is (words (take 16 m)) (announced m))))
       (fine_cond f (a.tag == tag.profile) _ _ (fine_fits f (length a.body % 4 == 0) _ (fine_answer f _ _ (profile_good (f n))))
       (fine_cond f (a.tag == tag.profile_change) _ _ (fine_fits f (length a.body == 0) _ (fine_answer f _ _ refl))
       (fine_answer f _ _ tt)));
@@ -98,13 +96,3 @@ clock_orderly = record {
       fine_cond f (a.tag == tag.date_time_enq) _ _ (fine_fits f (length a.body == 1) _ (fine_answer f _ _ (time_good t)))
       (fine_answer f _ _ tt);
 }
-
-module _ {U : Type 0} where
-  pub manager_lawful : (made : U → List ℕ) (share : U → ℕ → Keep (ℕ → Bool)) → Lawful (plain manager made share)
-  manager_lawful made share = plain_lawful manager made share manager_orderly
-
-  pub information_lawful : (made : U → Unit {0}) (share : U → ℕ → Keep (Option (List ℕ))) → Lawful (plain information made share)
-  information_lawful made share = plain_lawful information made share information_orderly
-
-  pub clock_lawful : (made : U → Unit {0}) (share : U → ℕ → Keep (Unit {0})) → Lawful (plain clock made share)
-  clock_lawful made share = plain_lawful clock made share clock_orderly

@@ -87,19 +87,17 @@ module _ {S T U : Type 0} (one : U → S) (two : U → T) (M : Meaning S) (N : M
         go true e = omega (arith, lawM.closed_count m.0 slot i n s.0 e)
         go false e = omega (arith, lawN.closed_count m.1 slot i n s.1 e)
 
+    -- a change of one share leaves what is put back
+    gone_side : (f : M.Share → M.Share) (g : N.Share → N.Share) → M.gone m.0 slot (f s.0) ≡ M.gone m.0 slot s.0 → N.gone m.1 slot (g s.1) ≡ N.gone m.1 slot s.1
+        → (x : Bool) → P.gone m slot (on_side x f g s) ≡ P.gone m slot s
+    gone_side f g e h true = λ d. (e d, N.gone m.1 slot s.1)
+    gone_side f g e h false = λ d. (M.gone m.0 slot s.0, h d)
+
     gone_opened : P.gone m slot (P.opened m slot i n s) ≡ P.gone m slot s
-    gone_opened = go (ours (js m) i)
-      where
-        go : (x : Bool) → P.gone m slot (on_side x (M.opened m.0 slot i n) (N.opened m.1 slot i n) s) ≡ P.gone m slot s
-        go true = λ d. (lawM.gone_opened m.0 slot i n s.0 d, N.gone m.1 slot s.1)
-        go false = λ d. (M.gone m.0 slot s.0, lawN.gone_opened m.1 slot i n s.1 d)
+    gone_opened = gone_side (M.opened m.0 slot i n) (N.opened m.1 slot i n) (lawM.gone_opened m.0 slot i n s.0) (lawN.gone_opened m.1 slot i n s.1) (ours (js m) i)
 
     gone_closed : P.gone m slot (P.closed m slot i n s) ≡ P.gone m slot s
-    gone_closed = go (ours (js m) i)
-      where
-        go : (x : Bool) → P.gone m slot (on_side x (M.closed m.0 slot i n) (N.closed m.1 slot i n) s) ≡ P.gone m slot s
-        go true = λ d. (lawM.gone_closed m.0 slot i n s.0 d, N.gone m.1 slot s.1)
-        go false = λ d. (M.gone m.0 slot s.0, lawN.gone_closed m.1 slot i n s.1 d)
+    gone_closed = gone_side (M.closed m.0 slot i n) (N.closed m.1 slot i n) (lawM.gone_closed m.0 slot i n s.0) (lawN.gone_closed m.1 slot i n s.1) (ours (js m) i)
 
     module _ (a : Apdu (List ℕ)) where
       abbrev answering : Bool → Outcome P.Share

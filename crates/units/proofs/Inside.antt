@@ -170,25 +170,24 @@ module _ (bs : List ℕ) where
   named_safe id None p v i = read_err Tag p i
   named_safe id (Some a) p v i = as_safe (λ _. a) _ (bare_safe id p i) (λ _ _. v)
 
+  -- one more name in a table
+  each_named : {A : Type 0} (P : A → Type 0) (t : Bool) (a : A) (o : Option A) → P a → Each P o → Each P (cond t (Some a) o)
+  each_named P true a o v e = v
+  each_named P false a o v e = e
+
   bare_objects : (tag : ℕ) → Each (ObjectLies bs) (bare_object tag)
-  bare_objects tag = go (eqb tag c_t_c_reply) (eqb tag delete_t_c) (eqb tag d_t_c_reply) (eqb tag request_t_c)
-    where
-      go : (a b c d : Bool) → Each (ObjectLies bs) (cond a (Some obj.CreateReply) (cond b (Some obj.Delete) (cond c (Some obj.DeleteReply) (cond d (Some obj.Request) None))))
-      go true b c d = tt
-      go false true c d = tt
-      go false false true d = tt
-      go false false false true = tt
-      go false false false false = tt
+  bare_objects tag =
+      each_named (ObjectLies bs) (eqb tag c_t_c_reply) obj.CreateReply _ tt
+      (each_named (ObjectLies bs) (eqb tag delete_t_c) obj.Delete _ tt
+      (each_named (ObjectLies bs) (eqb tag d_t_c_reply) obj.DeleteReply _ tt
+      (each_named (ObjectLies bs) (eqb tag request_t_c) obj.Request None tt tt)))
 
   bare_commands : (tag : ℕ) → Each (CommandLies bs) (bare_command tag)
-  bare_commands tag = go (eqb tag create_t_c) (eqb tag delete_t_c) (eqb tag d_t_c_reply) (eqb tag rcv)
-    where
-      go : (a b c d : Bool) → Each (CommandLies bs) (cond a (Some cmd.Create) (cond b (Some cmd.Delete) (cond c (Some cmd.DeleteReply) (cond d (Some cmd.Receive) None))))
-      go true b c d = tt
-      go false true c d = tt
-      go false false true d = tt
-      go false false false true = tt
-      go false false false false = tt
+  bare_commands tag =
+      each_named (CommandLies bs) (eqb tag create_t_c) cmd.Create _ tt
+      (each_named (CommandLies bs) (eqb tag delete_t_c) cmd.Delete _ tt
+      (each_named (CommandLies bs) (eqb tag d_t_c_reply) cmd.DeleteReply _ tt
+      (each_named (CommandLies bs) (eqb tag rcv) cmd.Receive None tt tt)))
 
   object_safe : (id : ℕ) (p : Place) → In p → Safe (ObjectLies bs) (object id p)
   object_safe id p i =
