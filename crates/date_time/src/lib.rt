@@ -51,7 +51,7 @@ impl Kind for DateTime {
         if apdu.body.len() != 1 {
             return Err(WRONG_LENGTH);
         }
-        // `map_or` was tried: its proof did not close.
+        // Not `map_or`: its proof does not close.
         let Some(t) = time else {
             return Ok(None);
         };

@@ -14,10 +14,6 @@ cut (suc k) id most bs =
     ((id ∷ last ∷ bs) ∷ [])
     ((id ∷ more ∷ take most bs) ∷ cut k id most (drop most bs))
 
--- the link units of a transport unit, of which all but the last have the agreed size
-abbrev pub lpdus : ℕ → ℕ → List ℕ → List (List ℕ)
-lpdus id size bs = cut (length bs) id (size - 2) bs
-
 -- the bytes of such link units, one after another
 abbrev pub cut_bytes : ℕ → ℕ → List ℕ → List ℕ
 cut_bytes id most bs = flat_map (λ x. x) (cut (length bs) id most bs)

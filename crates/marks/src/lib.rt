@@ -23,8 +23,8 @@ impl Marks {
         }
     }
 
-    #[tactic(auto, using(crate::proofs::Places::marked_at, crate::proofs::Places::marked_out))]
     // Of any number: one without a place has no mark. A `SessionNumber` would ask more of a caller.
+    #[tactic(auto, using(crate::proofs::Places::marked_at, crate::proofs::Places::marked_out))]
     pub fn has(self, number: u8) -> bool
         ensures { result ≡ marked self number }
     {

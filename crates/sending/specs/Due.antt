@@ -43,7 +43,7 @@ command_due c (Greet n r p) = cmd.Data (write_reply (say.Data n.number (sent p))
 command_due c Receive = cmd.Receive
 command_due c Poll = cmd.Data []
 
--- every command but the last of a connection hands out a turn
+-- every command but 85 hands out a turn
 abbrev pub turn_due : Due → Bool
 turn_due Create = true
 turn_due Delete = true

@@ -120,6 +120,13 @@ impl<'a> TpduReader<'a> {
         Ok(body)
     }
 
+    // An object that has one byte beside the connection.
+    fn one(&mut self, id: u8) -> Result<u8, TransportFault>
+        ensures { one_of id (place self.old.cursor) ≡ (transport result, place self.new.cursor) }
+    {
+        Ok(self.own(id, Size::Exactly(2))?.byte()?)
+    }
+
     // An object that has nothing but the connection.
     fn bare(&mut self, id: u8) -> Result<(), TransportFault>
         ensures { bared id (place self.old.cursor) ≡ (transport result, place self.new.cursor) }
@@ -173,15 +180,6 @@ impl<'a> TpduReader<'a> {
         Ok(Response { object, available })
     }
 
-    // A TPDU that a host wrote on a connection.
-    pub fn command(mut self, id: u8) -> Result<Command<Part<'a>>, TransportFault>
-        ensures { transport_command result ≡ (command_of id (place self.entry.cursor)).0 }
-    {
-        let command = self.order(id)?;
-        self.cursor.finish()?;
-        Ok(command)
-    }
-
     fn order(&mut self, id: u8) -> Result<Command<Part<'a>>, TransportFault>
         ensures { ordered id (place self.old.cursor) ≡ (transport_command result, place self.new.cursor) }
     {
@@ -197,11 +195,13 @@ impl<'a> TpduReader<'a> {
         }
     }
 
-    // An object that has one byte beside the connection.
-    fn one(&mut self, id: u8) -> Result<u8, TransportFault>
-        ensures { one_of id (place self.old.cursor) ≡ (transport result, place self.new.cursor) }
+    // A TPDU that a host wrote on a connection.
+    pub fn command(mut self, id: u8) -> Result<Command<Part<'a>>, TransportFault>
+        ensures { transport_command result ≡ (command_of id (place self.entry.cursor)).0 }
     {
-        Ok(self.own(id, Size::Exactly(2))?.byte()?)
+        let command = self.order(id)?;
+        self.cursor.finish()?;
+        Ok(command)
     }
 }
 
