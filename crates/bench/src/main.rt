@@ -4,7 +4,7 @@
 use host::turn::host::Host;
 use host::turn::{Fed, Next};
 use refusal::Refusal;
-use standard::{APPLICATION_INFORMATION, DATE_TIME, RESOURCE_MANAGER, Three, three};
+use standard::{THREE, Three, three};
 use std::mem::size_of;
 use std::{env, io};
 
@@ -61,7 +61,7 @@ struct Bench {
 impl Bench {
     fn new() -> Bench {
         Bench {
-            host: Host::new(three(&[RESOURCE_MANAGER, APPLICATION_INFORMATION, DATE_TIME])),
+            host: Host::new(three(&THREE)),
             exchanges: 0,
             written: 0,
         }

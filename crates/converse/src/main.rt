@@ -6,7 +6,7 @@ use apdu::{
     APPLICATION_INFO, Apdu, DATE_TIME_ENQUIRY, PROFILE_CHANGED, PROFILE_ENQUIRY, PROFILE_REPLY,
 };
 use resource::{Refused, Resource};
-use standard::{APPLICATION_INFORMATION, DATE_TIME, RESOURCE_MANAGER, standard};
+use standard::{APPLICATION_INFORMATION, DATE_TIME, RESOURCE_MANAGER, THREE, standard};
 use std::io;
 
 fn bytes(rt: &HostRuntime, bytes: &[u8]) -> io::Result<()> {
@@ -93,6 +93,6 @@ fn converse<R: Resource>(rt: &HostRuntime, resource: &mut R) -> io::Result<()> {
 }
 
 fn main(rt: HostRuntime) -> io::Result<()> {
-    let mut resource = standard(3, &[RESOURCE_MANAGER, APPLICATION_INFORMATION, DATE_TIME]);
+    let mut resource = standard(3, &THREE);
     converse(&rt, &mut resource)
 }

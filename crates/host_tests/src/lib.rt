@@ -8,7 +8,7 @@ mod tests {
     use player::{Answer, Call, Entry};
     use protocol::{Row, State};
     use refusal::Refusal;
-    use standard::{APPLICATION_INFORMATION, DATE_TIME, RESOURCE_MANAGER, Three, three};
+    use standard::{RESOURCE_MANAGER, THREE, Three, three};
     use std::alloc::{AllocError, Global};
     use std::process::Abort;
     use std::test::Fail;
@@ -32,10 +32,6 @@ mod tests {
     const OPENED: &[u8] = &[1, 0, 0xA0, 10, 1, 0x92, 7, 0, 0, 1, 0, 0x41, 0, 1];
 
     const GREETING: &[u8] = &[1, 0, 0xA0, 9, 1, 0x90, 2, 0, 1, 0x9F, 0x80, 0x10, 0];
-
-    fn resources() -> Three {
-        three(&[RESOURCE_MANAGER, APPLICATION_INFORMATION, DATE_TIME])
-    }
 
     // What came of a call; of a next, the bytes and whether it handed out a turn.
     #[derive(Clone, Copy, PartialEq, Eq, Debug)]
@@ -80,7 +76,7 @@ mod tests {
         for step in steps {
             entries.push(entry(step.0, step.1))?;
         }
-        let player = Player::play(resources(), entries.as_mut_slice());
+        let player = Player::play(three(&THREE), entries.as_mut_slice());
         for (i, (entry, step)) in entries.iter().zip(steps).enumerate() {
             let got = entry
                 .answer

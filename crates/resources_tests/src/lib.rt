@@ -9,7 +9,7 @@ mod tests {
     use manager::Manager;
     use piece::Piece;
     use resource::{Refused, Resource};
-    use standard::{APPLICATION_INFORMATION, DATE_TIME, RESOURCE_MANAGER, standard};
+    use standard::{APPLICATION_INFORMATION, DATE_TIME, RESOURCE_MANAGER, THREE, standard};
 
     // What is answered to an object, with the bytes of a reply.
     type Answer<'a> = Result<Option<&'a [u8]>, Refused>;
@@ -175,7 +175,7 @@ mod tests {
 
     #[test]
     fn all_under_a_quota(rt: HostRuntime) {
-        let mut r = standard(2, &[RESOURCE_MANAGER, APPLICATION_INFORMATION, DATE_TIME]);
+        let mut r = standard(2, &THREE);
         assert_eq!(rt; r.find(0x00020050), Some(APPLICATION_INFORMATION));
         assert_eq!(rt; u8::from(r.ready(0, DATE_TIME)), 0);
         assert_eq!(rt; u8::from(r.ready(0, 0x00240042)), 0xF1, "not listed");

@@ -19,6 +19,8 @@ pub const APPLICATION_INFORMATION: u32 = 0x00020041;
 
 pub const DATE_TIME: u32 = 0x00240041;
 
+pub const THREE: [u32; 3] = [RESOURCE_MANAGER, APPLICATION_INFORMATION, DATE_TIME];
+
 pub type Three = Pair<Pair<Named<Manager>, Named<Information>>, Named<DateTime>>;
 
 // The three, new; Resource Manager announces the first sixteen of these identifiers.
