@@ -12,5 +12,5 @@ use Rattle.record.specs.declared.slots.Record.{Record}
 use Rattle.record.specs.Records.{slot_of}
 use Rattle.slot.specs.Stand.{stand_at, Did}
 
-pub stays : {S : Type 0} {M : Meaning S} {r : Result Answer Refusal} {b b' : Record} {s s' : S} (law : Lawful M) (at : ℕ) (a : Act) → at < 4 → Did M at a r b s b' s' → ∥ Sound (slot_of b) ∥₁ → ∥ Sound (slot_of b') ∥₁
-stays {M = M} {b = b} {s = s} law at a lt d k = ∥∥₁_map k (λ sound. subst (λ z. Sound z.slot) (sym d.after) (act_sound M (M.made s) at law a (stand_at M at b s) (le-leb at 3 (omega arith)) sound))
+pub stays : {S : Type 0} {M : Meaning S} {r : Result Answer Refusal} {b b' : Record} {s s' : S} (law : Lawful M) (at : ℕ) (a : Act) → Did M at a r b s b' s' → at < 4 → ∥ Sound (slot_of b) ∥₁ → ∥ Sound (slot_of b') ∥₁
+stays {M = M} {b = b} {s = s} law at a d lt k = ∥∥₁_map k (λ sound. subst (λ z. Sound z.slot) (sym d.after) (act_sound M (M.made s) at law a (stand_at M at b s) (le-leb at 3 (omega arith)) sound))

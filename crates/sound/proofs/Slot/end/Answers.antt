@@ -4,4 +4,4 @@ use Rattle.sound.proofs.Stays.{stays}
 use Rattle.sound.proofs.Slot.end.Goals as goal
 
 pub invariant_of-self : goal.invariant_of-self
-invariant_of-self g c = record { sound = stays g.R.Resource.laws c.get.result (end c.args.connection) (omega arith) (rw c.new.ensures at c.end.ensures.serves) c.args.self.now.sound }
+invariant_of-self g c = record { sound = stays g.R.Resource.laws _ (end c.args.connection) (rw c.new.ensures at c.end.ensures.serves) (omega arith) c.args.self.now.sound }

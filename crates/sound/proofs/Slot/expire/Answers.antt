@@ -4,4 +4,4 @@ use Rattle.sound.proofs.Stays.{stays}
 use Rattle.sound.proofs.Slot.expire.Goals as goal
 
 pub invariant_of-self : goal.invariant_of-self
-invariant_of-self g c = record { sound = stays g.R.Resource.laws c.get.result (expire c.args.c.number) (omega arith) (rw c.new.ensures at c.expire.ensures.serves) c.args.self.now.sound }
+invariant_of-self g c = record { sound = stays g.R.Resource.laws _ (expire c.args.c.number) (rw c.new.ensures at c.expire.ensures.serves) (omega arith) c.args.self.now.sound }

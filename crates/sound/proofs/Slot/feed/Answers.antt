@@ -4,4 +4,4 @@ use Rattle.sound.proofs.Stays.{stays}
 use Rattle.sound.proofs.Slot.feed.Goals as goal
 
 pub invariant_of-self : goal.invariant_of-self
-invariant_of-self g c = record { sound = stays g.R.Resource.laws c.get.result (feed c.args.c.number c.args.lpdu.now) (omega arith) (rw c.new-place.ensures at c.feed.ensures.serves) c.args.self.now.sound }
+invariant_of-self g c = record { sound = stays g.R.Resource.laws _ (feed c.args.c.number c.args.lpdu.now) (rw c.new-place.ensures at c.feed.ensures.serves) (omega arith) c.args.self.now.sound }

@@ -4,4 +4,4 @@ use Rattle.sound.proofs.Stays.{stays}
 use Rattle.sound.proofs.Slot.next.Goals as goal
 
 pub invariant_of-self : goal.invariant_of-self
-invariant_of-self g c = record { sound = stays g.R.Resource.laws c.get.result (next c.args.connection (length c.args.out.now)) (omega arith) c.next.ensures.did c.args.self.now.sound }
+invariant_of-self g c = record { sound = stays g.R.Resource.laws _ (next c.args.connection (length c.args.out.now)) c.next.ensures.did (omega arith) c.args.self.now.sound }

@@ -4,4 +4,4 @@ use Rattle.sound.proofs.Stays.{stays}
 use Rattle.sound.proofs.Slot.plug.Goals as goal
 
 pub invariant_of-self : goal.invariant_of-self
-invariant_of-self g c = record { sound = stays g.R.Resource.laws c.get.result (plug c.args.size) (omega arith) (rw c.new.ensures at c.plug.ensures.serves) c.args.self.now.sound }
+invariant_of-self g c = record { sound = stays g.R.Resource.laws _ (plug _) (rw c.new.ensures at c.plug.ensures.serves) (omega arith) c.args.self.now.sound }

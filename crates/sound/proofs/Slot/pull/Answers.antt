@@ -4,4 +4,4 @@ use Rattle.sound.proofs.Stays.{stays}
 use Rattle.sound.proofs.Slot.pull.Goals as goal
 
 pub invariant_of-self : goal.invariant_of-self
-invariant_of-self g c = record { sound = stays g.R.Resource.laws c.get.result pull (omega arith) (rw c.new.ensures at c.pull.ensures.serves) c.args.self.now.sound }
+invariant_of-self g c = record { sound = stays g.R.Resource.laws _ pull (rw c.new.ensures at c.pull.ensures.serves) (omega arith) c.args.self.now.sound }
