@@ -6,7 +6,7 @@ ghost use Rattle.std.specs.List.{AllPass, list_all};
 ghost use Rattle.std.specs.Result.{OkIff};
 ghost use Rattle.std.specs.Str.Parse.{digits_value};
 ghost use Rattle.hex.specs.Hex.{decode_of, is_hex_digit};
-ghost use Rattle.shelf.specs.declared.request.Reason.TheVariants.{Decimal, Hex};
+ghost use Rattle.console.specs.declared.request.Reason.TheVariants.{Decimal, Hex};
 
 use hex::FromHex;
 use player::Call;

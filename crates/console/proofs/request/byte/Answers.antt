@@ -4,8 +4,8 @@ use Rattle.std.specs.List.{AllPass}
 use Rattle.hex.specs.Hex.{decode_sized, is_hex_digit}
 use Rattle.hex.specs.declared.error.FromHexError.{FromHexError}
 use Rattle.hex.proofs.HexLemmas.{IsOk-decode_sized}
-use Rattle.shelf.specs.declared.request.Reason.{Reason}
-use Rattle.shelf.proofs.request.byte.Goals as goal
+use Rattle.console.specs.declared.request.Reason.{Reason}
+use Rattle.console.proofs.request.byte.Goals as goal
 
 found : (w : List ℕ) (r : Result (List ℕ) FromHexError) (q : Result (List ℕ) Reason) → r ≡ decode_sized w 1 → is_ok q ≡ is_ok r → (is_ok q ≡ true) ↔ ((length w ≡ 2) × AllPass is_hex_digit w)
 found w r q e v =

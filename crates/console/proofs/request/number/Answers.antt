@@ -1,7 +1,7 @@
 use Rattle.std.proofs.Common.{rules, sym, ◌∙◌}
 use Rattle.std.proofs.lemmas.Str.Parse.{parse_digits}
-use Rattle.shelf.proofs.Digits.{numerals, text}
-use Rattle.shelf.proofs.request.number.Goals as goal
+use Rattle.console.proofs.Digits.{numerals, text}
+use Rattle.console.proofs.request.number.Goals as goal
 
 pub returns-in-Ok-clause-value : goal.returns-in-Ok-clause-value
 returns-in-Ok-clause-value c =
