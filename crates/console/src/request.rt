@@ -135,6 +135,7 @@ fn has_digits(word: &[u8]) -> bool
 }
 
 // A number in decimal digits.
+#[tactic(auto, using(crate::proofs::Digits::text, crate::proofs::Digits::decimal))]
 fn number(word: &[u8]) -> Result<u16, Reason>
     ensures value { OkIff result ((list_all is_ascii_digit word.now ≡ true) × (0 < length word.now) × (digits_value 10 word.now < 2 ^ 16)) (digits_value 10 word.now) }
     ensures decimal { IsErrOf result Decimal ↔ (list_all is_ascii_digit word.now ≡ false) }
@@ -149,6 +150,7 @@ fn number(word: &[u8]) -> Result<u16, Reason>
 }
 
 // A byte in two hexadecimal digits.
+#[tactic(auto, using(crate::proofs::Digits::hexadecimal))]
 fn byte(word: &[u8]) -> Result<u8, Reason>
     ensures value { IfOk result (λ b. decode_of word.now ≡ Ok (b ∷ [])) }
     ensures found { IsOk result ↔ ((length word.now ≡ 2) × AllPass is_hex_digit word.now) }
