@@ -15,7 +15,7 @@ from shelf import ANNOUNCED, Shelf
 SINGLE_OBJECTS = (host.C_T_C_REPLY, host.DELETE_T_C, host.D_T_C_REPLY, host.REQUEST_T_C)
 DATA_OBJECTS = (host.T_DATA_LAST, host.T_DATA_MORE)
 MODULE_OBJECTS = (None, *SINGLE_OBJECTS, *DATA_OBJECTS)
-FOREIGN_TAGS = (0x00, 0x7F, 0x81, 0x82, 0x87, 0x88, 0x90, 0x9F, 0xA2, 0xFF)
+FOREIGN_TAGS = (0x81, 0x82, 0x87, 0x88, 0x00, 0x90, 0xA2, 0xFF)
 SPDU_TAGS = (0x90, 0x91, 0x92, 0x93, 0x94, 0x95, 0x96, 0x00, 0x9F, 0xFF)
 SETTLED = (State.IDLE, State.ACTIVE)
 APDU_TAGS = (host.PROFILE_ENQUIRY, host.PROFILE, host.PROFILE_CHANGE,
@@ -44,12 +44,13 @@ class Habits:
     def __init__(self, rng):
         settled = rng.random() < 0.4  # lets connections live, to have many sessions
         calm = 0 if settled else rng.choice((1, 0.3, 0.1))
-        self.slots = rng.sample(range(host.SLOTS), rng.choice((1, 1, 2, 3, 4)))
+        slots = (1, 1, 2) if settled else (1, 1, 2, 3, 4)
+        self.slots = rng.sample(range(host.SLOTS), rng.choice(slots))
         self.sizes = rng.choice(SIZES)
         # Weights of opening, closing and talking in a session.
         self.session = rng.choice(((8, 1, 6), (2, 1, 8), (3, 3, 4), (1, 1, 14)))
         if settled:
-            self.session = rng.choice(((20, 1, 1), (2, 2, 9)))
+            self.session = rng.choice(((20, 1, 1), (20, 1, 1), (2, 2, 9)))
         # The odds of all else, most of them at each step.
         self.restless = rng.choice((0.05, 0.2, 0.5))  # to turn to another connection
         self.second = rng.choice((0.15, 0.4, 0.6))  # that it is number 2
@@ -57,7 +58,7 @@ class Habits:
         self.bad_line = rng.choice((0.0, 0.02, 0.1))
         self.chain = rng.choice((0.05, 0.2, 0.5))  # of data in several TPDUs
         self.cut = rng.choice((0.05, 0.3, 0.7))  # of TPDUs in small LPDUs
-        self.limit = rng.choice((0.0, 0.05, 0.2))  # of units at their limits
+        self.limit = rng.choice((0.0, 0.1, 0.3))  # of units at their limits
         self.room = rng.choice((0.03, 0.1, 0.3))  # that a room is given
         self.right = rng.choice((0.3, 0.6, 0.95))  # of the object that a state takes
         self.wrong_body = rng.choice((0.1, 0.4))  # of objects of the wrong length
@@ -68,7 +69,7 @@ class Habits:
         self.malform = calm * rng.choice((0.05, 0.15, 0.3))  # of malformed units
         self.leave = calm * rng.choice((0.0, 0.01, 0.04))  # to expire, delete or pull
         self.end = 0 if settled else rng.choice((0.0, 0.03, 0.2))
-        self.hasty = 0 if settled else rng.choice((0.0, 0.2, 0.5))  # to make any call
+        self.hasty = 0 if settled else rng.choice((0.05, 0.2, 0.5))  # to make any call
 
 
 class Dice:
@@ -109,15 +110,12 @@ class Units(Dice):
             forms.append(bytes([0x81, value]))
         return self.pick(forms)
 
-    def no_length(self, value):
-        """A length field that is malformed or cut, of a form that could mean the value."""
-        return self.pick((b"", b"\x80", b"\x81", b"\x82", b"\x82\x00", b"\xFF",
-                          bytes([0x83, 0, 0, value]), bytes([0x84, 0, 0, 0, value]),
-                          bytes([0x80, value]), bytes([0x83, value])))
-
-    def cut_length(self):
-        """A length field at the end of a unit, with bytes missing."""
-        return self.pick((b"", b"\x81", b"\x82", b"\x82\x01"))
+    def broken(self, value, rest=b""):
+        """A malformed length field in place of this one, and the rest if it is not cut off."""
+        if self.chance(0.5):
+            return self.pick((b"", b"\x81", b"\x82", b"\x82\x01"))
+        return self.pick((b"\x80", bytes([0x80, value]), bytes([0x83, 0, 0, value]),
+                          bytes([0x83, value]), bytes([0x84, 0, 0, 0, value]), b"\xFF")) + rest
 
     def large_length(self):
         """A length that is told in two bytes or three, and is more than is there."""
@@ -161,22 +159,34 @@ class Units(Dice):
 
     def refusable(self, key):
         """A TPDU that is refused in most states, for what it is or what it carries."""
-        if self.connection(key).state is not State.ACTIVE and self.chance(0.5):
+        connection = self.connection(key)
+        if connection.state is not State.ACTIVE and self.chance(0.5):
             return self.tpdu(self.pick(MODULE_OBJECTS), key)
+        left = host.MOST_DATA - len(connection.data)
+        if left < 1000 and self.chance(0.5):
+            return self.tpdu(self.pick(DATA_OBJECTS), key, bytes(left + 1))
         number = self.number(key)
         session = self.slot(key).sessions.get(number)
         head = b"\x90\x02" + number.to_bytes(2, "big")
         talk = 4 if session else 1
-        do = self.weighted({"tpdu": 4, "spdu": 2, "apdu": talk, "body": talk, "wrong": 1})
+        do = self.weighted({"tpdu": 4, "spdu": 2, "apdu": 2 * talk, "body": talk, "wrong": 1})
         if do == "tpdu":
             return self.malformed_tpdu(key)
         if do == "wrong":
             return self.tpdu(self.pick((host.C_T_C_REPLY, host.D_T_C_REPLY)), key)
-        return self.tpdu(host.T_DATA_LAST, key, {
+        spdu = {
             "spdu": lambda: self.malformed_spdu(key),
             "apdu": lambda: head + self.malformed_apdu(session),
             "body": lambda: head + self.apdu(session, 1),
-        }[do]())
+        }[do]()
+        return self.tpdu(host.T_DATA_LAST, key, spdu.removeprefix(connection.data))
+
+    def refusable_rest(self, fragment, key):
+        """A rest that makes the kept fragments a refusable TPDU, told from the right rest."""
+        kept = self.connection(key).fragments
+        units = (self.refusable(key) for _ in range(8))
+        rests = (unit[len(kept):] for unit in units if unit.startswith(kept))
+        return next(filter(None, rests), None) or self.mutated(fragment)
 
     def malformed_tpdu(self, key):
         number = key[1]
@@ -187,24 +197,24 @@ class Units(Dice):
         first = self.object(either, number)
         status = self.status(key)
         mine = self.pick((number, number, stranger))
+        if self.chance(0.25):
+            return self.pick((
+                bytes([either]) + self.broken(1, bytes([number]) + status),
+                self.pick((b"", first)) + b"\x80" + self.broken(2, bytes([number, 0])),
+            ))
         return self.pick((
             lambda: bytes([self.pick(FOREIGN_TAGS), 1, number]) + status,
             lambda: first + bytes([self.pick(FOREIGN_TAGS), 2, number, 0]),
             lambda: first + self.object(single, number) + status,
             lambda: first,
-            lambda: first + b"\x80" + self.cut_length(),
             lambda: first + b"\x80" + self.large_length() + bytes([number, 0]),
-            lambda: bytes([self.pick((either, host.T_SB))]) + self.cut_length(),
-            lambda: bytes([self.pick((either, host.T_SB))]) + self.no_length(1),
-            lambda: bytes([either]) + self.no_length(1) + bytes([number]) + status,
-            lambda: b"\x80" + self.no_length(2) + bytes([number, 0]),
-            lambda: first + b"\x80" + self.no_length(2) + bytes([number, 0]),
             lambda: bytes([single, 0]) + status,
             lambda: bytes([single, 2, mine, number]) + status,
             lambda: bytes([single]) + self.length(2) + bytes([number, 0]) + status,
             lambda: bytes([data, 0]) + status,
-            lambda: bytes([host.T_SB, self.pick((0, 1, 3, 3)), mine, 0, 0]),
-            lambda: first + bytes([host.T_SB, self.pick((0, 1, 3, 3)), number, 0, 0]),
+            lambda: bytes([host.T_SB, 0]),
+            lambda: first + b"\x80" + self.pick((bytes([1, mine]), bytes([3, mine, 0, 0]))),
+            lambda: b"\x80" + self.pick((bytes([1, number]), bytes([3, number, 0, 0]))),
             lambda: bytes([data, 5, mine, 0xAA]),
             lambda: self.object(either, stranger) + status,
             lambda: first + self.object(host.T_SB, stranger, b"\x00"),
@@ -233,26 +243,24 @@ class Units(Dice):
     def malformed_spdu(self, key):
         number = self.number(key).to_bytes(2, "big")
         identifier = self.identifier().to_bytes(4, "big")
+        if self.chance(0.25):
+            return self.pick((
+                b"\x91" + self.broken(4, identifier),
+                bytes([self.pick((0x90, 0x95))]) + self.broken(2, number),
+            ))
         return self.pick((
             lambda: bytes([self.pick(SPDU_TAGS)]) + b"\x02" + number,
             lambda: bytes([self.pick(SPDU_TAGS)]) + b"\x04" + identifier,
             lambda: bytes([self.pick(SPDU_TAGS), 7, 0]) + identifier + number,
-            lambda: bytes([self.pick(SPDU_TAGS)]) + self.no_length(2) + number,
-            lambda: b"\x91" + self.no_length(4) + identifier,
-            lambda: bytes([self.pick((0x90, 0x95))]) + self.no_length(2) + number,
-            lambda: bytes([self.pick(SPDU_TAGS)]),
-            lambda: bytes([self.pick((0x90, 0x91, 0x95))]) + self.cut_length(),
             lambda: bytes([self.pick((0x90, 0x91, 0x95))]) + self.large_length() + identifier,
             lambda: b"\x91" + self.length(4) + identifier[:self.rng.randint(0, 3)],
             lambda: b"\x91" + self.length(4) + identifier + self.some_bytes(1),
             lambda: b"\x95" + self.length(2) + number[:self.rng.randint(0, 1)],
             lambda: b"\x95" + self.length(2) + number + self.some_bytes(self.pick((1, 5))),
             lambda: b"\x90" + self.length(2) + number[:self.rng.randint(0, 1)],
-            lambda: b"\x91\x05" + identifier + b"\x00",
-            lambda: b"\x91\x03" + identifier[:3],
-            lambda: b"\x95\x03" + number + b"\x00",
-            lambda: b"\x95\x01" + number[1:],
-            lambda: b"\x90\x03" + number + b"\x00" + self.apdu(None),
+            lambda: b"\x91" + self.pick((b"\x05\x00" + identifier, b"\x03" + identifier[1:])),
+            lambda: b"\x95" + self.pick((b"\x03\x00" + number, b"\x01" + number[1:])),
+            lambda: b"\x90" + self.pick((b"\x03\x00" + number, b"\x01" + number[1:])),
             lambda: self.mutated(b"\x90\x02" + number + self.apdu(None)),
             lambda: self.some_bytes(self.rng.randint(1, 12)),
         ))()
@@ -260,7 +268,7 @@ class Units(Dice):
     def long_spdu(self, key, total):
         """An SPDU of so many bytes, which a session may take."""
         head = b"\x90" + self.length(2) + self.number(key).to_bytes(2, "big")
-        head += self.pick((host.PROFILE, host.PROFILE, 0x9F8000)).to_bytes(3, "big")
+        head += self.pick((host.PROFILE, 0x9F8000, 0x9F8000)).to_bytes(3, "big")
         body = total - len(head) - 3
         if body < 0 or self.chance(0.1):
             return bytes(total)
@@ -268,7 +276,7 @@ class Units(Dice):
 
     def identifier(self):
         listed = self.pick((ANNOUNCED[0], *ANNOUNCED))
-        if self.chance(0.75):
+        if self.chance(0.65):
             return listed
         return self.pick((
             lambda: listed & ~0x3F | self.pick((0, 0, 1, 2, 2, 3, 0x3F)),
@@ -323,6 +331,9 @@ class Units(Dice):
 
     def malformed_apdu(self, session):
         tag = self.apdu_tag(session).to_bytes(3, "big")
+        if self.chance(0.4):
+            return self.pick((tag[:self.rng.randint(0, 2)], tag + self.broken(0),
+                              tag + self.broken(4, bytes(4))))
         return self.pick((
             lambda: tag[:self.rng.randint(0, 3)],
             lambda: b"\x9E" + tag[1:] + b"\x00",
@@ -331,11 +342,7 @@ class Units(Dice):
             lambda: bytes([0x9F, self.pick((0x00, 0x7F))]),
             lambda: bytes([0x9F, 0x80, self.pick((0x80, 0x90, 0xFF)), 0]),
             lambda: bytes([0x9F, 0x80, self.pick((0x80, 0xFF))]),
-            lambda: tag + self.cut_length(),
             lambda: tag + self.large_length() + self.some_bytes(4),
-            lambda: tag + self.no_length(0),
-            lambda: tag + self.no_length(1) + b"\x00",
-            lambda: tag + self.no_length(4) + bytes(4),
             lambda: tag + self.length(5) + self.some_bytes(self.pick((0, 4, 6))),
             lambda: tag + self.length(0) + tag + b"\x00",
             lambda: self.mutated(tag + b"\x01\x00"),
@@ -493,7 +500,7 @@ class Generator(Units, BadLines):
 
     def any_call(self, key):
         """Makes a call that the connection may not wait for."""
-        do = self.weighted({"next": 2, "end": 1, "feed": 3, "expire": 2, "plug": 1, "pull": 0.3})
+        do = self.weighted({"next": 2, "end": 1, "feed": 3, "expire": 2, "plug": 1, "pull": 1})
         if do == "feed":
             tpdu = self.tpdu(self.pick(MODULE_OBJECTS), key)
             self.call("feed", *key, bytes([key[1], 0]) + tpdu)
@@ -540,10 +547,12 @@ class Generator(Units, BadLines):
                 return
             self.plans[key] = self.plan(key)
         plan = self.plans[key]
-        active = self.connection(key).state is State.ACTIVE
+        connection = self.connection(key)
+        active = connection.state is State.ACTIVE
+        spoil = self.habits.spoil * (2 if connection.fragments or connection.data else 1)
         if self.chance(self.habits.leave / 2 if active else 0.04):
             self.call("expire", *key)
-        elif self.chance(self.habits.spoil):
+        elif self.chance(max(spoil, 0.5 if len(connection.data) > 1000 else 0)):
             if self.call("feed", *key, self.spoiled(plan[0], key)):
                 plan.clear()
         elif not self.call("feed", *key, plan.popleft()):
@@ -555,7 +564,7 @@ class Generator(Units, BadLines):
         if connection.fragments:
             return deque(self.rest_of_fragments(key))
         if self.chance(self.habits.malform / 3):
-            return self.lpdus(self.malformed_tpdu(key), key, self.habits.cut / 5)
+            return self.lpdus(self.refusable(key), key)
         if connection.state is State.CREATING:
             return self.reply_plan(host.C_T_C_REPLY, key)
         if connection.state is State.DELETING:
@@ -606,7 +615,8 @@ class Generator(Units, BadLines):
         """The LPDUs of an SPDU, in one TPDU or chained."""
         chunks = [spdu]
         if len(spdu) > 1000 or self.chance(self.habits.chain):
-            cuts = sorted(self.rng.randint(0, len(spdu)) for _ in range(self.pick((1, 1, 2, 3))))
+            furthest = min(len(spdu), self.pick((4, len(spdu))))
+            cuts = sorted(self.rng.randint(0, furthest) for _ in range(self.pick((1, 1, 2, 3))))
             if len(spdu) > 1000:
                 cuts = sorted(cuts[:1] + list(range(1000, len(spdu), 1000)))
             chunks = [spdu[a:b] for a, b in zip([0, *cuts], [*cuts, len(spdu)])]
@@ -639,7 +649,7 @@ class Generator(Units, BadLines):
         kept = self.connection(key).fragments
         step = self.slot(key).size - 2
         more, last = bytes([key[1], 0x80]), bytes([key[1], 0x00])
-        do = self.weighted({"status": 3, "whole": 3, "limit": 2, "any": 1})
+        do = self.weighted({"status": 3, "whole": 3, "limit": 2, "any": 2})
         if do == "limit":
             left = host.MOST_FRAGMENTS - len(kept)
             if left <= 8 * step:
@@ -650,7 +660,7 @@ class Generator(Units, BadLines):
             if 0 < missing <= 8 * step:
                 return write_lpdus(bytes(missing) + self.status(key), key[1], step + 2)
         if do == "any":
-            return [last + self.some_bytes(self.rng.randint(1, min(step, 20)))]
+            return [self.pick((more, last)) + self.some_bytes(self.rng.randint(1, min(step, 20)))]
         return [last + self.status(key)]
 
     def missing(self, fragments):
@@ -669,6 +679,8 @@ class Generator(Units, BadLines):
         if self.chance(self.habits.cut if cut is None else cut):
             least = 3 + len(tpdu) // 10
             size = self.rng.randint(min(least, size), min(size, least + 20))
+            if self.chance(0.2):  # its tag alone goes first
+                return deque([bytes([key[1], 0x80, tpdu[0]]), *write_lpdus(tpdu[1:], key[1], size)])
         return deque(write_lpdus(tpdu, key[1], size))
 
     def spoiled(self, lpdu, key):
@@ -678,7 +690,7 @@ class Generator(Units, BadLines):
         bad_number = bytes([self.pick((0, 3, host.other(key[1]), 0x81, 0xFF))])
         bad_mark = bytes([self.pick((0x01, 0x40, 0x7F, 0x81, 0xC0, 0xFF))])
         do = self.weighted({"short": 1, "long": 1, "connection": 1, "mark": 1,
-                            "unit": 12, "limit": 1})
+                            "unit": 12, "limit": 2})
         if do == "short":
             head = self.pick((number, bad_number)) + self.pick((mark, bad_mark))
             return head[:self.rng.randint(0, 2)]
@@ -688,8 +700,8 @@ class Generator(Units, BadLines):
         if do == "mark":
             return number + bad_mark + fragment
         if do == "unit":
-            whole = self.chance(0.8) and not self.connection(key).fragments
-            unit = self.refusable(key) if whole else self.mutated(fragment)
+            mutated = self.chance(0.2)
+            unit = self.mutated(fragment) if mutated else self.refusable_rest(fragment, key)
             return number + b"\x00" + unit[:size - 2]
         if do == "limit":
             kept = len(self.connection(key).fragments)

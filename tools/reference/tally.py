@@ -1,11 +1,11 @@
 """Counts what the lines of a script reach.
 
-A watched shelf answers as any other does. What a call reaches is told from its bytes, its answer
-and the slot before and after it, and has a name; GROUPS lists all names.
+A watched shelf answers as any other does. What a call reaches has a name, told from its bytes, its
+answer, the slot before and after it, and what earlier calls left. GROUPS lists all names.
 """
 
 from collections import Counter
-from dataclasses import dataclass, replace
+from dataclasses import dataclass, field, replace
 from itertools import product
 
 import host
@@ -14,7 +14,19 @@ from host import Fault, Reader, State
 from shelf import Call, Shelf
 
 CONNECTIONS = (1, 2)
-ALL_PASSED = 18  # one more than the last refusal
+NONE_MET = 18  # one more than the last refusal
+
+
+@dataclass
+class Past:
+    """What earlier calls left, by slot and connection or slot and session number."""
+
+    refusals: dict = field(default_factory=dict)  # of the last feed of a turn
+    ends: dict = field(default_factory=dict)  # what ended the last session
+    profiles: dict = field(default_factory=dict)  # what came of each 9F8011 of an open session
+    profiled: dict = field(default_factory=dict)  # what ended one whose 9F8011 was answered
+    lower: set = field(default_factory=set)  # sessions asked for in a lower version than is listed
+    clock_refused: bool = False  # since a clock call was served
 
 
 @dataclass
@@ -25,10 +37,11 @@ class Event:
     answer: str
     before: host.Slot | None
     host: host.Host
+    past: Past
 
     @property
-    def after(self):
-        return self.host.slots[self.call.place[0]]
+    def slot(self):
+        return self.call.place[0]
 
     @property
     def number(self):
@@ -36,8 +49,17 @@ class Event:
         return self.call.place[1]
 
     @property
+    def after(self):
+        return self.host.slots[self.slot]
+
+    @property
     def connection(self):
+        """The connection before the call."""
         return self.before.connections[self.number]
+
+    @property
+    def connection_after(self):
+        return self.after.connections[self.number]
 
     @property
     def served(self):
@@ -46,7 +68,7 @@ class Event:
     @property
     def refusal(self):
         """The number of the refusal, or one more than the last."""
-        return ALL_PASSED if self.served else int(self.answer.split(" ")[1])
+        return NONE_MET if self.served else int(self.answer.split(" ")[1])
 
 
 class Watched(Shelf):
@@ -55,6 +77,7 @@ class Watched(Shelf):
     def __init__(self):
         super().__init__()
         self.seen = Counter()
+        self.past = Past()
 
     def answer(self, line):
         answer = super().answer(line)
@@ -69,7 +92,7 @@ class Watched(Shelf):
     def outcome(self, call):
         before = self.copy_of_slot(call)
         answer = super().outcome(call)
-        self.seen.update(reached(Event(call, answer, before, self.host)))
+        self.seen.update(reached(Event(call, answer, before, self.host, self.past)))
         return answer
 
     def copy_of_slot(self, call):
@@ -82,6 +105,8 @@ class Watched(Shelf):
     def close(self):
         for slot, connection in self.turns:
             self.seen[f"end of input in {standing(self.host.slots[slot], connection)}"] += 1
+        if self.past.lower:
+            self.seen["report of a session asked for in a lower version"] += 1
         return super().close()
 
 
@@ -90,19 +115,19 @@ def reached(event):
     name = event.call.name
     yield f"{name} sent" if event.answer.startswith("sent") else f"{name} {event.answer}"
     if name == "clock":
-        yield from clock_items(event)
+        yield from clock_names(event)
     elif event.before:
-        yield from session_items(event)
+        yield from session_names(event)
         if name == "plug":
-            yield from plug_items(event)
+            yield from plug_names(event)
         elif name == "pull":
-            yield from pull_items(event)
+            yield from pull_names(event)
         elif event.number in CONNECTIONS:
             yield f"{name} in {standing(event.before, event.number)}"
             if name == "next":
-                yield from next_items(event)
+                yield from next_names(event)
             elif name == "feed":
-                yield from feed_items(event)
+                yield from feed_names(event)
 
 
 def standing(slot, number):
@@ -112,7 +137,8 @@ def standing(slot, number):
     return state + (", turn out" if connection.turn_out else "")
 
 
-def clock_items(event):
+def clock_names(event):
+    event.past.clock_refused = not event.served
     time = event.call.argument[2:]
     if time == b"\x23\x59\x59":
         yield "clock 23 59 59"
@@ -123,7 +149,7 @@ def clock_items(event):
             yield f"clock of {part} with a letter"
 
 
-def plug_items(event):
+def plug_names(event):
     if event.call.argument in (15, 16, 65535):
         yield f"plug of size {event.call.argument}"
     out = [n for n in CONNECTIONS if event.before.connections[n].turn_out]
@@ -131,31 +157,47 @@ def plug_items(event):
         yield f"plug with turn {' and '.join(map(str, out))} out"
 
 
-def pull_items(event):
+def pull_names(event):
     for number in CONNECTIONS:
         yield f"pull in {standing(event.before, number)}"
 
 
-def session_items(event):
-    before, after = event.before.sessions, event.after.sessions
+def session_names(event):
+    before, after, past = event.before.sessions, event.after.sessions, event.past
     if len(before) < len(after) == host.PLACES:
         yield "sixteen sessions at once"
         if len({session.connection for session in after.values()}) == 2:
             yield "sixteen sessions over both connections"
     if len(after) < len(before):
-        cause = event.call.name
-        if cause == "feed":
-            active = event.after.connections[event.number].state is State.ACTIVE
-            cause = "95" if active else "84"
-        yield f"sessions ended by {cause}" + (", others stay" if after else "")
+        yield f"sessions ended by {ending(event)}" + (", others stay" if after else "")
+    for number in after.keys() - before.keys():
+        if (event.slot, number) in past.ends:
+            yield f"number given anew after {past.ends[event.slot, number]}"
+    if event.call.name == "pull" and event.served:
+        past.ends = {place: end for place, end in past.ends.items() if place[0] != event.slot}
+        past.profiled |= {place: "pull" for place in past.profiled if place[0] == event.slot}
+    for number in before.keys() - after.keys():
+        place = event.slot, number
+        past.ends[place] = ending(event)
+        past.lower.discard(place)
+        if "answered" in past.profiles.pop(place, ()):
+            past.profiled[place] = ending(event)
+
+
+def ending(event):
+    """What ended sessions: a call, or the object or unit that was fed."""
+    if event.call.name != "feed":
+        return event.call.name
+    return "95" if event.connection_after.state is State.ACTIVE else "84"
 
 
 # Commands
 
 
-def next_items(event):
+def next_names(event):
     room = event.call.argument
     if event.served:
+        event.past.refusals.pop(event.call.place, None)
         lpdus = bytes.fromhex(event.answer.removeprefix("sent "))
         yield f"next sent {command(lpdus, event.connection)} on {event.number}"
         if room == len(lpdus):
@@ -184,8 +226,9 @@ def command(lpdus, connection):
 # What is fed
 
 
-def feed_items(event):
+def feed_names(event):
     lpdu = event.call.argument
+    yield from names_after_refusals(event)
     if event.answer == "refused 9 long" and len(lpdu) == event.before.size + 1:
         yield "LPDU of one byte more than agreed"
     if event.answer == "refused 9 short" and len(lpdu) == 2:
@@ -200,50 +243,102 @@ def feed_items(event):
         if len(fragments) in (host.MOST_FRAGMENTS, host.MOST_FRAGMENTS + 1):
             yield f"{len(fragments)} fragment bytes, {'last' if last else 'more'}"
         if last and event.refusal > 10:
-            yield from tpdu_items(event, fragments)
+            yield from tpdu_names(event, fragments)
 
 
-def tpdu_items(event, fragments):
-    tpdu, forms = noted(host.read_tpdu, fragments, event.number)
-    places = ("status",) if fragments[0] == host.T_SB else ("object", "status")
-    for place, form in zip(places, forms):
-        yield f"length of {place} {form}"
-    if tpdu:
-        name = object_name(tpdu.tag)
-        yield f"{event.connection.state.value} met {name} on {event.number}"
+def names_after_refusals(event):
+    """What a turn that came back from a refused feed is fed then, on top of what was kept."""
+    refusals, place = event.past.refusals, event.call.place
+    if event.served and place in refusals:
+        refusal = refusals.pop(place)
+        yield f"fed on after {refusal}"
         if event.connection.fragments:
-            yield f"{name} in fragments"
-        if tpdu.tag in (host.T_DATA_LAST, host.T_DATA_MORE) and event.refusal > 12:
-            yield from data_items(event, tpdu)
+            yield f"fragments joined after a refused {REFUSED[refusal]}"
+        after = event.connection_after
+        if event.connection.data and not after.data and after.state is State.ACTIVE:
+            yield f"data read after a refused {REFUSED[refusal]}"
+    elif 9 <= event.refusal < NONE_MET:
+        refusals[place] = event.refusal
 
 
-def object_name(tag):
-    return "a status alone" if tag is None else f"{tag:02X}"
+def tpdu_names(event, fragments):
+    state = event.connection.state
+    tpdu, reader = noted(host.read_tpdu, fragments, event.number)
+    tags = [fragments[0], host.T_SB][:len(reader.lengths)]
+    for tag, (form, length) in zip(tags, reader.lengths):
+        yield f"length of {'status' if tag == host.T_SB else 'object'} {form}"
+        yield from near_names(tag, length)
+    if not tpdu:
+        yield f"{state.value} met {event.answer.removeprefix('refused ')}"
+        yield from transport_fault_names(event, tags, reader)
+        return
+    name = named(tpdu.tag, TAGS)
+    yield f"{state.value} met {name} on {event.number}"
+    if event.connection.fragments:
+        yield f"{name} in fragments"
+    if tpdu.tag in (host.T_DATA_LAST, host.T_DATA_MORE) and event.refusal > 12:
+        yield from data_names(event, tpdu)
 
 
-def data_items(event, tpdu):
-    name = object_name(tpdu.tag)
+def transport_fault_names(event, tags, reader):
+    """How a TPDU is malformed, of which objects of these tags were read."""
+    rest = reader.unit[reader.offset:]
+    if event.answer == "refused 11 tag":
+        yield f"11 tag: {'no status' if tags else named(reader.unit[0], HOST_OBJECTS)}"
+    elif event.answer == "refused 11 length" and tags:
+        length = reader.lengths[-1][1] or 0
+        if 0 < len(rest) < length and rest[0] != event.number:
+            yield "11 length before content"
+    elif event.answer == "refused 11 content" and tags[-1] == host.T_SB and rest:
+        yield "11 content before length"
+
+
+def near_names(tag, length):
+    """Lengths that a tag does not allow, next to one that it does."""
+    if length in NEAR.get(tag, ()):
+        yield f"{tag:02X} of length {length}"
+
+
+def named(tag, tags):
+    """A tag by its digits, if it is among these."""
+    if tag is None:
+        return "a status alone"
+    return f"{tag:02X}" if tag in tags else "any other"
+
+
+def data_names(event, tpdu):
     waiting = event.connection.data
     data = waiting + tpdu.data
     if len(data) in (host.MOST_DATA, host.MOST_DATA + 1):
-        yield f"{len(data)} data bytes, {name}"
+        yield f"{len(data)} data bytes, {tpdu.tag:02X}"
     if not tpdu.data:
-        yield f"{name} without data, {'some' if waiting else 'none'} waiting"
+        yield f"{tpdu.tag:02X} without data, {'some' if waiting else 'none'} waiting"
     if data and tpdu.tag == host.T_DATA_LAST and event.refusal > 13:
-        yield from spdu_items(event, data)
+        yield from spdu_names(event, data)
 
 
-def spdu_items(event, data):
-    spdu, forms = noted(host.read_spdu, data)
-    yield from (f"length of SPDU {form}" for form in forms)
-    if spdu:
-        if event.connection.data:
-            fragments = " and in fragments" if event.connection.fragments else ""
-            yield f"{spdu.tag:02X} in a chain{fragments}"
-        if spdu.tag != host.OPEN_SESSION_REQUEST:
-            yield f"{spdu.tag:02X} for a session {whereabouts(event, spdu.value)}"
-    if event.refusal > 15 and spdu.tag == host.SESSION_NUMBER:
-        yield from apdu_items(event, spdu)
+def spdu_names(event, data):
+    spdu, reader = noted(host.read_spdu, data)
+    for form, length in reader.lengths:
+        yield f"length of SPDU {form}"
+        yield from near_names(data[0], length)
+    if not spdu:
+        if event.answer == "refused 14 tag":
+            yield f"14 tag: {named(data[0], HOST_UNITS)}"
+        return
+    if event.connection.data:
+        fragments = " and in fragments" if event.connection.fragments else ""
+        yield f"{spdu.tag:02X} in a chain{fragments}"
+    if spdu.tag == host.OPEN_SESSION_REQUEST:
+        if len(event.before.sessions) == host.PLACES:
+            yield f"91 with sixteen sessions owes {event.connection_after.owed[5]:02X}"
+        for number in event.after.sessions.keys() - event.before.sessions.keys():
+            if spdu.value != event.after.sessions[number].identifier:
+                event.past.lower.add((event.slot, number))
+    else:
+        yield f"{spdu.tag:02X} for a session {whereabouts(event, spdu.value)}"
+    if spdu.tag == host.SESSION_NUMBER and event.refusal > 15:
+        yield from apdu_names(event, spdu)
 
 
 def whereabouts(event, number):
@@ -252,42 +347,76 @@ def whereabouts(event, number):
     return "of the other connection" if number in event.before.sessions else "that is not open"
 
 
-def apdu_items(event, spdu):
-    apdu, forms = noted(host.read_apdu, spdu.body)
-    yield from (f"length of APDU {form}" for form in forms)
+def apdu_names(event, spdu):
+    apdu, reader = noted(host.read_apdu, spdu.body)
+    yield from (f"length of APDU {form}" for form, _ in reader.lengths)
+    if len(spdu.body) < 3:
+        yield f"APDU of {beginning(*spdu.body)}"
+    elif spdu.body[3:] == b"\x80":
+        yield "APDU of a tag and 80"
     if apdu:
         identifier = event.before.sessions[spdu.value].identifier
-        tag = f"{apdu.tag:06X}" if apdu.tag in OBJECTS[identifier] else "any other"
-        answered = event.after.connections[event.number].owed
+        tag = named(apdu.tag, OBJECTS[identifier])
+        answered = event.connection_after.owed is not None
         fate = "refused" if not event.served else "answered" if answered else "passed"
         yield f"{identifier:08X} {tag} {fate}"
+        if tag == "9F8440" and fate == "answered" and event.past.clock_refused:
+            yield "9F8440 answered after a clock call was refused"
+        if tag == "9F8011":
+            yield from profile_names(event, spdu.value, fate)
+
+
+def beginning(first=None, second=None):
+    """What the bytes of a cut APDU tell of its tag."""
+    if first is None:
+        return "no bytes"
+    if first != 0x9F:
+        return "another byte than 9F"
+    if second is None:
+        return "9F alone"
+    return f"9F and a byte {'from' if second >= 0x80 else 'below'} 80"
+
+
+def profile_names(event, number, fate):
+    """What a session's 9F8011 came after."""
+    past, place = event.past, (event.slot, number)
+    if fate == "answered":
+        if "refused" in past.profiles.get(place, ()):
+            yield "9F8011 answered after one was refused"
+        if place in past.profiled:
+            cause = "a pull" if past.profiled[place] == "pull" else "its end"
+            yield f"9F8011 answered again for a number given anew after {cause}"
+        if any("answered" in fates for other, fates in past.profiles.items()
+               if other[0] == event.slot):
+            yield "9F8011 answered in another session of the slot too"
+    past.profiles.setdefault(place, []).append(fate)
 
 
 class NotingReader(Reader):
-    """Notes the form of each length field that it reads."""
+    """Notes each length that it reads, with its form."""
 
     def __init__(self, unit):
         super().__init__(unit)
-        self.forms = []
+        self.lengths = []
 
     def length(self):
         start = self.offset
         try:
             length = super().length()
         except Fault:
-            self.forms.append(malformed_form(self.unit[start:]))
+            self.lengths.append((malformed_form(self.unit[start:]), None))
             raise
-        self.forms.append(good_form(self.unit[start:self.offset], length))
+        self.lengths.append((good_form(self.unit[start:self.offset], length), length))
         return length
 
 
 def noted(read, unit, *arguments):
-    """What a reader makes of a unit, none where it is malformed, and the forms of its lengths."""
+    """What is read of a unit, none where it is malformed, and the reader."""
     reader = NotingReader(unit)
     try:
-        return read(reader, *arguments), reader.forms
+        return read(reader, *arguments), reader
     except Fault:
-        return None, reader.forms
+        return None, reader
 
 
 def good_form(field, length):
@@ -306,6 +435,7 @@ def malformed_form(rest):
 # All names
 
 
+# The tags that a resource answers or keeps.
 OBJECTS = {
     host.ResourceManager.identifier:
         (host.PROFILE_ENQUIRY, host.PROFILE, host.PROFILE_CHANGE),
@@ -313,9 +443,31 @@ OBJECTS = {
     host.DateTime.identifier: (host.TIME_ENQUIRY,),
 }
 
-# The tags that a module's TPDU may have, none for a status alone.
+# The objects of a module's TPDU, none for a status alone.
 TAGS = (host.C_T_C_REPLY, host.DELETE_T_C, host.D_T_C_REPLY, host.REQUEST_T_C,
         host.T_DATA_LAST, host.T_DATA_MORE, None)
+
+# What only a host sends.
+HOST_OBJECTS = (host.T_RCV, host.CREATE_T_C, host.NEW_T_C, host.T_C_ERROR)
+HOST_UNITS = (host.OPEN_SESSION_RESPONSE, host.CLOSE_SESSION_RESPONSE)
+
+# The unit for which a feed is refused, by number.
+REFUSED = {9: "LPDU", 10: "LPDU", 11: "TPDU", 12: "TPDU", 13: "TPDU", 14: "SPDU", 15: "SPDU",
+           16: "APDU", 17: "APDU"}
+
+# Lengths that a tag does not allow, next to one that it does.
+NEAR = {
+    host.C_T_C_REPLY: (0, 2),
+    host.DELETE_T_C: (0, 2),
+    host.D_T_C_REPLY: (0, 2),
+    host.REQUEST_T_C: (0, 2),
+    host.T_DATA_LAST: (0,),
+    host.T_DATA_MORE: (0,),
+    host.T_SB: (1, 3),
+    host.OPEN_SESSION_REQUEST: (3, 5),
+    host.CLOSE_SESSION_REQUEST: (1, 3),
+    host.SESSION_NUMBER: (1, 3),
+}
 
 # Creating and Deleting have the turn out; Delete due and Reply due never do.
 STANDINGS = ("an absent slot", "an absent slot, turn out", "Idle", "Idle, turn out",
@@ -345,11 +497,17 @@ GROUPS = {
     "Answers": [f"{name} {answer}" for name, answers in ANSWERS.items() for answer in answers],
     "Commands": [f"next sent {sent} on {number}"
                  for sent, number in product(COMMANDS, CONNECTIONS)],
-    "Calls by states": [f"{call} in {where}" for call, where in product(
-        ("pull", "end", "next", "feed", "expire"), STANDINGS)]
-        + [f"end of input in {where}" for where in STANDINGS if where.endswith("out")],
-    "Objects by states": [f"{state.value} met {object_name(tag)} on {number}"
-                          for state, tag, number in product(host.HEARING, TAGS, CONNECTIONS)],
+    "Calls by states": [
+        *(f"{call} in {where}" for call, where in product(
+            ("pull", "end", "next", "feed", "expire"), STANDINGS)),
+        *(f"end of input in {where}" for where in STANDINGS if where.endswith("out")),
+    ],
+    "Objects by states": [
+        *(f"{state.value} met {named(tag, TAGS)} on {number}"
+          for state, tag, number in product(host.HEARING, TAGS, CONNECTIONS)),
+        *(f"{state.value} met 11 {kind}"
+          for state, kind in product(host.HEARING, ("tag", "length", "content"))),
+    ],
     "Limits": [
         *(f"plug of size {size}" for size in (15, 16, 65535)),
         "clock 23 59 59", "clock of hour 24", "clock of minute 60", "clock of second 60",
@@ -359,32 +517,55 @@ GROUPS = {
         *(f"{count} fragment bytes, {mark}"
           for count, mark in product((1024, 1025), ("more", "last"))),
         *(f"{count} data bytes, {tag}" for count, tag in product((2048, 2049), ("A1", "A0"))),
-        *(f"room of {room} for {count} LPDU{s}" for (count, s), room in product(
-            (("one", ""), ("several", "s")), ("just enough", "one less"))),
+        *(f"room of {room} for {count}" for count, room in product(
+            ("one LPDU", "several LPDUs"), ("just enough", "one less"))),
         "sixteen sessions at once", "sixteen sessions over both connections",
+        *(f"91 with sixteen sessions owes {status}" for status in ("F0", "F2", "F3")),
     ],
-    "Length fields": [f"length of {place} {form}" for place, form in product(
-        ("object", "status", "SPDU", "APDU"), FORMS)],
+    "Tags and length fields": [
+        *(f"11 tag: {tag}" for tag in ("81", "82", "87", "88", "any other", "no status")),
+        "11 length before content", "11 content before length",
+        *(f"14 tag: {tag}" for tag in ("92", "96", "any other")),
+        *(f"{tag:02X} of length {length}" for tag, lengths in NEAR.items() for length in lengths),
+        *(f"length of {place} {form}" for place, form in product(
+            ("object", "status", "SPDU", "APDU"), FORMS)),
+        *(f"APDU of {bytes}" for bytes in (
+            "no bytes", "9F alone", "another byte than 9F", "9F and a byte from 80",
+            "9F and a byte below 80", "a tag and 80")),
+    ],
     "Fragments and chains": [
-        *(f"{object_name(tag)} in fragments" for tag in TAGS),
+        *(f"{named(tag, TAGS)} in fragments" for tag in TAGS),
         *(f"{tag} in a chain{fragments}" for tag, fragments in product(
             ("91", "95", "90"), ("", " and in fragments"))),
         *(f"{tag} without data, {data} waiting" for tag, data in product(
             ("A1", "A0"), ("none", "some"))),
+    ],
+    "Turns that came back": [
+        *(f"fed on after {refusal}" for refusal in REFUSED),
+        *(f"{kept} after a refused {unit}" for kept, unit in product(
+            ("fragments joined", "data read"), dict.fromkeys(REFUSED.values()))),
     ],
     "Turns and sessions": [
         *(f"plug with turn {turns} out" for turns in ("1", "2", "1 and 2")),
         *(f"sessions ended by {cause}" for cause in (
             "pull", "end", "end, others stay", "expire", "expire, others stay",
             "84", "84, others stay", "95", "95, others stay")),
+        *(f"number given anew after {cause}" for cause in ("pull", "end", "expire", "84", "95")),
         *(f"{tag} for a session {where}" for tag, where in product(
             ("95", "90"), ("of this connection", "of the other connection", "that is not open"))),
     ],
-    "Objects": [f"00010041 9F801{digit} {fate}" for digit, fate in product(
-        "012", ("answered", "refused"))] + [
+    "Objects": [
+        *(f"00010041 {tag} {fate}" for tag, fate in product(
+            ("9F8010", "9F8011", "9F8012"), ("answered", "refused"))),
         "00010041 9F8011 passed", "00020041 9F8021 passed", "00020041 9F8021 refused",
         "00240041 9F8440 answered", "00240041 9F8440 passed", "00240041 9F8440 refused",
         *(f"{identifier:08X} any other passed" for identifier in OBJECTS),
+        "9F8440 answered after a clock call was refused",
+        "report of a session asked for in a lower version",
+        "9F8011 answered after one was refused",
+        "9F8011 answered again for a number given anew after its end",
+        "9F8011 answered again for a number given anew after a pull",
+        "9F8011 answered in another session of the slot too",
     ],
     "Lines": [
         *(f"line {wrong}" for wrong in (
