@@ -131,19 +131,3 @@ impl fmt::Display for HexWord {
         write!(f, "{n:08X}")
     }
 }
-
-#[cfg(test)]
-mod tests {
-    use super::*;
-    use std::test::Fail;
-
-    #[test]
-    fn resources(rt: HostRuntime) -> Result<(), Fail> {
-        assert_eq!(rt; resource(0x00010041), Some("Resource Manager"));
-        assert_eq!(rt; resource(0x0024007F), Some("Date-Time"));
-        assert_eq!(rt; resource(0x00400081), None);
-        let printed = format!(in rt.alloc(); "{}", HexWord(0x0024007F))?;
-        assert_eq!(rt; printed.as_str(), "0024007F");
-        Ok(())
-    }
-}

@@ -1,4 +1,4 @@
-// Conversations of a host with modules, over the three named resources as one.
+// Conversations of a host with modules, over the three named resources as one, and consoles whose input or output fails.
 #![tactic(auto)]
 
 #[cfg(test)]
@@ -93,25 +93,20 @@ mod tests {
             .map(|Line { state, out }| (state, out))
     }
 
-    fn sent<'a>(bytes: &'a [u8]) -> Said<'a> {
-        Said::Sent(bytes, true)
-    }
+    const WAITS: &[u8] = &[1, 0, 0x80, 2, 1, 0x80];
+
+    const CREATION: &[Step<'static>] = &[
+        (Call::Plug(0, 16), &[], Said::Done),
+        (Call::Next(0, 1), &[], Said::Sent(CREATE, true)),
+        (Call::Feed(0, 1), CREATED, Said::Done),
+        (Call::Next(0, 1), &[], Said::Sent(POLL, true)),
+        (Call::Feed(0, 1), WAITS, Said::Done),
+        (Call::Next(0, 1), &[], Said::Sent(&[1, 0, 0x81, 1, 1], true)),
+    ];
 
     #[test]
     fn creates_and_polls(rt: HostRuntime) -> Result<(), Fail> {
-        let waits: &[u8] = &[1, 0, 0x80, 2, 1, 0x80];
-        let player = play(
-            &rt,
-            rt.alloc(),
-            &[
-                (Call::Plug(0, 16), &[], Said::Done),
-                (Call::Next(0, 1), &[], sent(CREATE)),
-                (Call::Feed(0, 1), CREATED, Said::Done),
-                (Call::Next(0, 1), &[], sent(POLL)),
-                (Call::Feed(0, 1), waits, Said::Done),
-                (Call::Next(0, 1), &[], sent(&[1, 0, 0x81, 1, 1])),
-            ],
-        )?;
+        let player = play(&rt, rt.alloc(), CREATION)?;
         assert_eq!(rt; player.host().size(0), Some(16));
         assert_eq!(rt; line(&player, 0, 1), Some((State::Active, true)));
         assert_eq!(rt; line(&player, 0, 2), Some((State::Idle, false)));
@@ -121,83 +116,92 @@ mod tests {
         Ok(())
     }
 
+    const ENQUIRES: &[u8] = &[
+        1, 0x80, 0xA0, 9, 1, 0x90, 2, 0, 1, 0x9F, 0x80, 0x10, 0, 0x80, 2, 1,
+    ];
+
+    const PROFILE: &[u8] = &[
+        1, 0x80, 0xA0, 21, 1, 0x90, 2, 0, 1, 0x9F, 0x80, 0x11, 12, 0, 1, 0, 1, 0, 0x41, 0, 2, 0,
+        0x41, 0, 0x24, 0, 0x41,
+    ];
+
+    const A_SESSION: &[Step<'static>] = &[
+        (Call::Plug(0, 16), &[], Said::Done),
+        (Call::Next(0, 1), &[], Said::Sent(CREATE, true)),
+        (Call::Feed(0, 1), CREATED, Said::Done),
+        (Call::Next(0, 1), &[], Said::Sent(POLL, true)),
+        (Call::Feed(0, 1), OPEN, Said::Done),
+        (Call::Next(0, 1), &[], Said::Sent(OPENED, true)),
+        (Call::Feed(0, 1), STATUS, Said::Done),
+        (Call::Next(0, 1), &[], Said::Sent(GREETING, true)),
+        (Call::Feed(0, 1), ENQUIRES, Said::More),
+        (Call::Feed(0, 1), &[1, 0, 0], Said::Done),
+        (Call::Next(0, 1), &[], Said::Sent(PROFILE, true)),
+        (Call::Feed(0, 1), CLOSE, Said::Done),
+        (
+            Call::Next(0, 1),
+            &[],
+            Said::Sent(&[1, 0, 0xA0, 6, 1, 0x96, 3, 0, 0, 1], true),
+        ),
+        (Call::Feed(0, 1), STATUS, Said::Done),
+        (Call::Next(0, 1), &[], Said::Sent(POLL, true)),
+    ];
+
     #[test]
     fn opens_greets_and_closes(rt: HostRuntime) -> Result<(), Fail> {
-        let asks: &[u8] = &[
-            1, 0x80, 0xA0, 9, 1, 0x90, 2, 0, 1, 0x9F, 0x80, 0x10, 0, 0x80, 2, 1,
-        ];
-        let profile: &[u8] = &[
-            1, 0x80, 0xA0, 21, 1, 0x90, 2, 0, 1, 0x9F, 0x80, 0x11, 12, 0, 1, 0, 1, 0, 0x41, 0, 2,
-            0, 0x41, 0, 0x24, 0, 0x41,
-        ];
-        let player = play(
-            &rt,
-            rt.alloc(),
-            &[
-                (Call::Plug(0, 16), &[], Said::Done),
-                (Call::Next(0, 1), &[], sent(CREATE)),
-                (Call::Feed(0, 1), CREATED, Said::Done),
-                (Call::Next(0, 1), &[], sent(POLL)),
-                (Call::Feed(0, 1), OPEN, Said::Done),
-                (Call::Next(0, 1), &[], sent(OPENED)),
-                (Call::Feed(0, 1), STATUS, Said::Done),
-                (Call::Next(0, 1), &[], sent(GREETING)),
-                (Call::Feed(0, 1), asks, Said::More),
-                (Call::Feed(0, 1), &[1, 0, 0], Said::Done),
-                (Call::Next(0, 1), &[], sent(profile)),
-                (Call::Feed(0, 1), CLOSE, Said::Done),
-                (
-                    Call::Next(0, 1),
-                    &[],
-                    sent(&[1, 0, 0xA0, 6, 1, 0x96, 3, 0, 0, 1]),
-                ),
-                (Call::Feed(0, 1), STATUS, Said::Done),
-                (Call::Next(0, 1), &[], sent(POLL)),
-            ],
-        )?;
+        let player = play(&rt, rt.alloc(), A_SESSION)?;
         assert_eq!(rt; player.host().session(0, 1), None);
         player.finish();
         Ok(())
     }
 
+    const STATUS_2: &[u8] = &[2, 0, 0x80, 2, 2, 0];
+
+    const CLOSES: &[u8] = &[2, 0, 0xA0, 5, 2, 0x95, 2, 0, 1, 0x80, 2, 2, 0];
+
+    const SPEAKS: &[u8] = &[
+        2, 0, 0xA0, 9, 2, 0x90, 2, 0, 1, 0x9F, 0x80, 0x10, 0, 0x80, 2, 2, 0,
+    ];
+
+    const TWO_CONNECTIONS: &[Step<'static>] = &[
+        (Call::Plug(3, 32), &[], Said::Done),
+        (Call::Next(3, 1), &[], Said::Sent(CREATE, true)),
+        (Call::Feed(3, 1), CREATED, Said::Done),
+        (Call::Next(3, 1), &[], Said::Sent(POLL, true)),
+        (Call::Feed(3, 1), OPEN, Said::Done),
+        (Call::Next(3, 1), &[], Said::Sent(OPENED, true)),
+        (Call::Feed(3, 1), ASKS, Said::Done),
+        (
+            Call::Next(3, 1),
+            &[],
+            Said::Sent(&[1, 0, 0x87, 2, 1, 2], true),
+        ),
+        (Call::Feed(3, 1), ASKS, Said::Done),
+        (
+            Call::Next(3, 1),
+            &[],
+            Said::Sent(&[1, 0, 0x88, 2, 1, 1], true),
+        ),
+        (Call::Next(3, 2), &[], Said::Sent(&[2, 0, 0x82, 1, 2], true)),
+        (
+            Call::Feed(3, 2),
+            &[2, 0, 0x83, 1, 2, 0x80, 2, 2, 0],
+            Said::Done,
+        ),
+        (Call::Next(3, 2), &[], Said::Sent(&[2, 0, 0xA0, 1, 2], true)),
+        (Call::Feed(3, 2), SPEAKS, Said::Refused(Refusal::NotOpen)),
+        (Call::Feed(3, 2), CLOSES, Said::Done),
+        (
+            Call::Next(3, 2),
+            &[],
+            Said::Sent(&[2, 0, 0xA0, 6, 2, 0x96, 3, 0xF0, 0, 1], true),
+        ),
+        (Call::Feed(3, 2), STATUS_2, Said::Done),
+    ];
+
     #[test]
     fn one_connection_closes_no_session_of_the_other(rt: HostRuntime) -> Result<(), Fail> {
-        let status: &[u8] = &[2, 0, 0x80, 2, 2, 0];
-        let closes: &[u8] = &[2, 0, 0xA0, 5, 2, 0x95, 2, 0, 1, 0x80, 2, 2, 0];
-        let speaks: &[u8] = &[
-            2, 0, 0xA0, 9, 2, 0x90, 2, 0, 1, 0x9F, 0x80, 0x10, 0, 0x80, 2, 2, 0,
-        ];
-        let player = play(
-            &rt,
-            rt.alloc(),
-            &[
-                (Call::Plug(3, 32), &[], Said::Done),
-                (Call::Next(3, 1), &[], sent(CREATE)),
-                (Call::Feed(3, 1), CREATED, Said::Done),
-                (Call::Next(3, 1), &[], sent(POLL)),
-                (Call::Feed(3, 1), OPEN, Said::Done),
-                (Call::Next(3, 1), &[], sent(OPENED)),
-                (Call::Feed(3, 1), ASKS, Said::Done),
-                (Call::Next(3, 1), &[], sent(&[1, 0, 0x87, 2, 1, 2])),
-                (Call::Feed(3, 1), ASKS, Said::Done),
-                (Call::Next(3, 1), &[], sent(&[1, 0, 0x88, 2, 1, 1])),
-                (Call::Next(3, 2), &[], sent(&[2, 0, 0x82, 1, 2])),
-                (
-                    Call::Feed(3, 2),
-                    &[2, 0, 0x83, 1, 2, 0x80, 2, 2, 0],
-                    Said::Done,
-                ),
-                (Call::Next(3, 2), &[], sent(&[2, 0, 0xA0, 1, 2])),
-                (Call::Feed(3, 2), speaks, Said::Refused(Refusal::NotOpen)),
-                (Call::Feed(3, 2), closes, Said::Done),
-                (
-                    Call::Next(3, 2),
-                    &[],
-                    sent(&[2, 0, 0xA0, 6, 2, 0x96, 3, 0xF0, 0, 1]),
-                ),
-                (Call::Feed(3, 2), status, Said::Done),
-            ],
-        )?;
+        let player = play(&rt, rt.alloc(), TWO_CONNECTIONS)?;
         let open = Row {
             connection: 1,
             identifier: RESOURCE_MANAGER,
@@ -211,57 +215,54 @@ mod tests {
         Ok(())
     }
 
+    const A_PULL: &[Step<'static>] = &[
+        (Call::Plug(2, 32), &[], Said::Done),
+        (Call::Next(2, 1), &[], Said::Sent(CREATE, true)),
+        (Call::Pull(2), &[], Said::Done),
+        (Call::Next(2, 1), &[], Said::Refused(Refusal::Presence)),
+        (Call::Feed(2, 1), CREATED, Said::Refused(Refusal::Presence)),
+        (Call::Plug(2, 64), &[], Said::Done),
+        (Call::Next(2, 1), &[], Said::Refused(Refusal::Turn)),
+        (Call::End(2, 1), &[], Said::Refused(Refusal::Turn)),
+        (Call::Feed(2, 1), CREATED, Said::Refused(Refusal::State)),
+        (Call::Expire(2, 1), &[], Said::Done),
+        (Call::Expire(2, 1), &[], Said::Refused(Refusal::Turn)),
+        (Call::Feed(2, 1), CREATED, Said::Refused(Refusal::Turn)),
+    ];
+
     #[test]
     fn a_turn_outlives_a_pull(rt: HostRuntime) -> Result<(), Fail> {
-        let player = play(
-            &rt,
-            rt.alloc(),
-            &[
-                (Call::Plug(2, 32), &[], Said::Done),
-                (Call::Next(2, 1), &[], sent(CREATE)),
-                (Call::Pull(2), &[], Said::Done),
-                (Call::Next(2, 1), &[], Said::Refused(Refusal::Presence)),
-                (Call::Feed(2, 1), CREATED, Said::Refused(Refusal::Presence)),
-                (Call::Plug(2, 64), &[], Said::Done),
-                (Call::Next(2, 1), &[], Said::Refused(Refusal::Turn)),
-                (Call::End(2, 1), &[], Said::Refused(Refusal::Turn)),
-                (Call::Feed(2, 1), CREATED, Said::Refused(Refusal::State)),
-                (Call::Expire(2, 1), &[], Said::Done),
-                (Call::Expire(2, 1), &[], Said::Refused(Refusal::Turn)),
-                (Call::Feed(2, 1), CREATED, Said::Refused(Refusal::Turn)),
-            ],
-        )?;
+        let player = play(&rt, rt.alloc(), A_PULL)?;
         assert_eq!(rt; player.host().size(2), Some(64));
         assert_eq!(rt; line(&player, 2, 1), Some((State::CreateDue, false)));
         player.finish();
         Ok(())
     }
 
+    const REPLIES: &[u8] = &[1, 0, 0x85, 1, 1, 0x80, 2, 1, 0];
+
+    const ENDS: &[Step<'static>] = &[
+        (Call::Plug(0, 32), &[], Said::Done),
+        (Call::Next(0, 1), &[], Said::Sent(CREATE, true)),
+        (Call::End(0, 1), &[], Said::Refused(Refusal::Turn)),
+        (Call::Feed(0, 1), CREATED, Said::Done),
+        (Call::Next(0, 1), &[], Said::Sent(POLL, true)),
+        (Call::Feed(0, 1), OPEN, Said::Done),
+        (Call::End(0, 1), &[], Said::Done),
+        (Call::Next(0, 1), &[], Said::Sent(&[1, 0, 0x84, 1, 1], true)),
+        (Call::Feed(0, 1), REPLIES, Said::Done),
+        (Call::Next(0, 1), &[], Said::Refused(Refusal::State)),
+        (Call::Plug(1, 32), &[], Said::Done),
+        (Call::Next(1, 1), &[], Said::Sent(CREATE, true)),
+        (Call::Feed(1, 1), CREATED, Said::Done),
+        (Call::Next(1, 1), &[], Said::Sent(POLL, true)),
+        (Call::Feed(1, 1), OPEN, Said::Done),
+        (Call::Next(1, 1), &[], Said::Sent(OPENED, true)),
+    ];
+
     #[test]
     fn ends_and_expires(rt: HostRuntime) -> Result<(), Fail> {
-        let replies: &[u8] = &[1, 0, 0x85, 1, 1, 0x80, 2, 1, 0];
-        let mut player = play(
-            &rt,
-            rt.alloc(),
-            &[
-                (Call::Plug(0, 32), &[], Said::Done),
-                (Call::Next(0, 1), &[], sent(CREATE)),
-                (Call::End(0, 1), &[], Said::Refused(Refusal::Turn)),
-                (Call::Feed(0, 1), CREATED, Said::Done),
-                (Call::Next(0, 1), &[], sent(POLL)),
-                (Call::Feed(0, 1), OPEN, Said::Done),
-                (Call::End(0, 1), &[], Said::Done),
-                (Call::Next(0, 1), &[], sent(&[1, 0, 0x84, 1, 1])),
-                (Call::Feed(0, 1), replies, Said::Done),
-                (Call::Next(0, 1), &[], Said::Refused(Refusal::State)),
-                (Call::Plug(1, 32), &[], Said::Done),
-                (Call::Next(1, 1), &[], sent(CREATE)),
-                (Call::Feed(1, 1), CREATED, Said::Done),
-                (Call::Next(1, 1), &[], sent(POLL)),
-                (Call::Feed(1, 1), OPEN, Said::Done),
-                (Call::Next(1, 1), &[], sent(OPENED)),
-            ],
-        )?;
+        let mut player = play(&rt, rt.alloc(), ENDS)?;
         assert_eq!(rt; player.host().session(0, 1), None);
         assert_eq!(rt; line(&player, 0, 1), Some((State::Idle, false)));
         assert!(rt; player.host().session(1, 1).is_some());
@@ -273,45 +274,38 @@ mod tests {
         Ok(())
     }
 
+    const REFUSALS: &[Step<'static>] = &[
+        (Call::Plug(4, 15), &[], Said::Refused(Refusal::Slot)),
+        (Call::Plug(0, 16), &[], Said::Done),
+        (Call::Plug(0, 15), &[], Said::Refused(Refusal::Size)),
+        (Call::Plug(0, 16), &[], Said::Refused(Refusal::Presence)),
+        (Call::Pull(4), &[], Said::Refused(Refusal::Slot)),
+        (Call::Pull(1), &[], Said::Refused(Refusal::Presence)),
+        (Call::End(4, 3), &[], Said::Refused(Refusal::Slot)),
+        (Call::End(1, 0), &[], Said::Refused(Refusal::Connection)),
+        (Call::End(1, 1), &[], Said::Refused(Refusal::Presence)),
+        (Call::End(0, 1), &[], Said::Refused(Refusal::State)),
+        (Call::Next(4, 3), &[], Said::Refused(Refusal::Slot)),
+        (Call::Next(1, 3), &[], Said::Refused(Refusal::Connection)),
+        (Call::Next(1, 1), &[], Said::Refused(Refusal::Presence)),
+        (Call::Next(0, 2), &[], Said::Refused(Refusal::State)),
+        (Call::Feed(4, 3), &[], Said::Refused(Refusal::Slot)),
+        (Call::Feed(1, 0), &[], Said::Refused(Refusal::Connection)),
+        (Call::Feed(1, 1), &[], Said::Refused(Refusal::Turn)),
+        (Call::Expire(4, 3), &[], Said::Refused(Refusal::Slot)),
+        (Call::Expire(1, 3), &[], Said::Refused(Refusal::Connection)),
+        (Call::Expire(0, 1), &[], Said::Refused(Refusal::Turn)),
+        (
+            Call::Clock([0, 0, 0x24, 0, 0]),
+            &[],
+            Said::Refused(Refusal::Clock),
+        ),
+        (Call::Clock([0, 0, 0x23, 0x59, 0x59]), &[], Said::Done),
+    ];
+
     #[test]
     fn refuses_in_order(rt: HostRuntime) -> Result<(), Fail> {
-        let slot = Said::Refused(Refusal::Slot);
-        let connection = Said::Refused(Refusal::Connection);
-        let presence = Said::Refused(Refusal::Presence);
-        let state = Said::Refused(Refusal::State);
-        let turn = Said::Refused(Refusal::Turn);
-        let player = play(
-            &rt,
-            rt.alloc(),
-            &[
-                (Call::Plug(4, 15), &[], slot),
-                (Call::Plug(0, 16), &[], Said::Done),
-                (Call::Plug(0, 15), &[], Said::Refused(Refusal::Size)),
-                (Call::Plug(0, 16), &[], presence),
-                (Call::Pull(4), &[], slot),
-                (Call::Pull(1), &[], presence),
-                (Call::End(4, 3), &[], slot),
-                (Call::End(1, 0), &[], connection),
-                (Call::End(1, 1), &[], presence),
-                (Call::End(0, 1), &[], state),
-                (Call::Next(4, 3), &[], slot),
-                (Call::Next(1, 3), &[], connection),
-                (Call::Next(1, 1), &[], presence),
-                (Call::Next(0, 2), &[], state),
-                (Call::Feed(4, 3), &[], slot),
-                (Call::Feed(1, 0), &[], connection),
-                (Call::Feed(1, 1), &[], turn),
-                (Call::Expire(4, 3), &[], slot),
-                (Call::Expire(1, 3), &[], connection),
-                (Call::Expire(0, 1), &[], turn),
-                (
-                    Call::Clock([0, 0, 0x24, 0, 0]),
-                    &[],
-                    Said::Refused(Refusal::Clock),
-                ),
-                (Call::Clock([0, 0, 0x23, 0x59, 0x59]), &[], Said::Done),
-            ],
-        )?;
+        let player = play(&rt, rt.alloc(), REFUSALS)?;
         assert_eq!(rt; line(&player, 0, 1), Some((State::CreateDue, false)));
         assert_eq!(rt; line(&player, 4, 1), None);
         assert_eq!(rt; line(&player, 0, 3), None);
@@ -322,17 +316,72 @@ mod tests {
         Ok(())
     }
 
+    const PLUGGED: &[Step<'static>] = &[(Call::Plug(0, 16), &[], Said::Done)];
+
     #[test]
     fn a_command_needs_its_room(rt: HostRuntime) -> Result<(), Fail> {
-        let mut player = play(&rt, rt.alloc(), &[(Call::Plug(0, 16), &[], Said::Done)])?;
+        let mut player = play(&rt, rt.alloc(), PLUGGED)?;
         let mut out = [0xEE; 4];
         let short = player.call(Call::Next(0, 1), &[], &mut out);
         assert_eq!(rt; outcome(short, &out), Said::Refused(Refusal::Room));
         assert_eq!(rt; out, [0xEE; 4]);
         let mut out = [0xEE; 5];
         let full = player.call(Call::Next(0, 1), &[], &mut out);
-        assert_eq!(rt; outcome(full, &out), sent(CREATE));
+        assert_eq!(rt; outcome(full, &out), Said::Sent(CREATE, true));
         player.finish();
         Ok(())
+    }
+}
+
+#[cfg(test)]
+mod consoles {
+    use console::play;
+    use date_time::DateTime;
+    use std::fmt::Display;
+    use std::io;
+    use std::io::{ErrorKind, Read};
+
+    // Gives its bytes, and then fails.
+    #[derive(Drop)]
+    struct Failing<'a>(&'a [u8]);
+
+    impl Read for Failing<'_> {
+        fn read(&mut self, buf: &mut [u8]) -> io::Result<usize> {
+            if self.0.is_empty() {
+                return Err(io::Error::from(ErrorKind::NotConnected));
+            }
+            self.0.read(buf)
+        }
+    }
+
+    // Prints nothing, and fails.
+    #[derive(Drop)]
+    struct Closed;
+
+    impl Print for Closed {
+        fn print<D: Display + Drop>(&self, value: D) -> io::Result<()> {
+            Err(io::Error::from(ErrorKind::BrokenPipe))
+        }
+
+        fn println<D: Display + Drop>(&self, value: D) -> io::Result<()> {
+            Err(io::Error::from(ErrorKind::BrokenPipe))
+        }
+
+        fn write_all(&self, bytes: &[u8]) -> io::Result<()> {
+            Err(io::Error::from(ErrorKind::BrokenPipe))
+        }
+    }
+
+    #[test]
+    fn failures_are_told(rt: HostRuntime) {
+        let inputs: [&[u8]; 3] = [b"", b"pull 0\n", b"plug 0 16\npull 0"];
+        for input in inputs {
+            let failed = play(&rt, DateTime::resource(), Failing(input));
+            assert!(rt; failed.is_err_and(|e| e.kind() == ErrorKind::NotConnected));
+        }
+        let closed = (Closed, rt.alloc());
+        let input: &[u8] = b"plug 0 16\n";
+        let failed = play(&closed, DateTime::resource(), input);
+        assert!(rt; failed.is_err_and(|e| e.kind() == ErrorKind::BrokenPipe));
     }
 }

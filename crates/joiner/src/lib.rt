@@ -72,19 +72,3 @@ impl Kept {
         self.unit.get_or_insert(Vec::new(self.heap)).clear();
     }
 }
-
-#[cfg(test)]
-mod tests {
-    use super::*;
-
-    #[test]
-    fn limits(rt: HostRuntime) {
-        let mut kept = Kept::new(rt.alloc(), 3);
-        assert_eq!(rt; kept.add(&[1, 2]), Ok(()));
-        assert_eq!(rt; kept.add(&[3, 4]), Err(Refusal::Limit));
-        assert_eq!(rt; kept.add(&[5]), Err(Refusal::Limit));
-        kept.clear();
-        assert_eq!(rt; kept.add(&[6]), Ok(()));
-        assert!(rt; kept.bytes() == [6].as_slice());
-    }
-}

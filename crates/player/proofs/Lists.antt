@@ -8,9 +8,9 @@ use Rattle.resource.specs.Meaning.{Meaning}
 use Rattle.protocol.specs.Results.{refuse}
 use Rattle.protocol.specs.Record.{Slot, valid}
 use Rattle.protocol.specs.Calls.{Act, plug, pull, end, next, feed, expire, Answer, act}
-use Rattle.protocol.specs.Runs.{Call, clock, at, Shelf, names, step, run, answer_of}
+use Rattle.protocol.specs.Runs.{Call, clock, at, Shelf, step, run, answer_of}
 use Rattle.protocol.specs.Laws.{Stands}
-use Rattle.protocol.proofs.Apart.{local, named, unnamed}
+use Rattle.protocol.proofs.Stands.{step_same, run_last}
 use Rattle.host.specs.declared.turn.host.Host.{Host}
 use Rattle.host.specs.View.{view}
 use Rattle.player.specs.declared.Answer as code
@@ -41,18 +41,7 @@ module _ {S : Type 0} (M : Meaning S) where
         go true t = reply_off s a h t ∙ sym (reply_off s a k t)
         go false t = ap (λ st. told_by s a st.slot (refuse (ltb 3 s) no.Slot (answer_of (act M made s a st)))) (e s (let b = ltb-false 3 s t in omega arith))
 
-    step_same : (c : Call) (h k : Shelf M made) (s : ℕ) → h s ≡ k s → step M made c h s ≡ step M made c k s
-    step_same c h k s e = go (names s c) refl
-      where
-        go : (b : Bool) → names s c ≡ b → step M made c h s ≡ step M made c k s
-        go true t = named M made s c h t ∙ ap (local M made s c) e ∙ sym (named M made s c k t)
-        go false t = unnamed M made s c h t ∙ e ∙ sym (unnamed M made s c k t)
-
     -- the last of a list
-    run_last : (cs : List Call) (c : Call) (h : Shelf M made) → run M made (cs ++ c ∷ []) h ≡ step M made c (run M made cs h)
-    run_last [] c h = refl
-    run_last (d ∷ cs) c h = run_last cs c (step M made d h)
-
     entries_last : (es : List Entry) (e : Entry) (h : Shelf M made) → entries_left M made (es ++ e ∷ []) h ≡ entries_left M made es h ++ entry_left (reply M made (call_in e) (run M made (map call_in es) h)) e ∷ []
     entries_last [] e h = refl
     entries_last (d ∷ es) e h = ap (λ l. entry_left (reply M made (call_in d) h) d ∷ l) (entries_last es e (step M made (call_in d) h))
@@ -86,8 +75,8 @@ module _ {S : Type 0} (M : Meaning S) where
       after s b =
           q.after s b
           ∙ ap (λ m. step M m c (view M h') s) p.made
-          ∙ step_same made c (view M h') before s (p.after s b)
-          ∙ ap (λ f. f s) (sym (run_last made (map call_in es) c (view M h)))
+          ∙ step_same M made c (view M h') before s (p.after s b)
+          ∙ ap (λ f. f s) (sym (run_last M made (map call_in es) c (view M h)))
           ∙ ap (λ l. run M made l (view M h) s) (sym (map-append call_in es (e ∷ [])))
 
       stands : (calls : List Call) → Stands M made calls (view M h) → Stands M made (calls ++ map call_in (es ++ e ∷ [])) (view M h2)

@@ -139,6 +139,6 @@ module _ {S : Type 0} (M : Meaning S) (made : M.Made) where
     clock_begun (Some u) s h = ap (λ b. cond b (tell M made u (new M made s)) (new M made s)) h ∙ (λ i. record { slot = fresh; share = law.told_beginning made u None i })
 
     pub absent_as_new : AbsentAsNew M made
-    absent_as_new cs s b e o1 o2 =
-        absent_begun s _ _ _ (new_tracks cs s b) e o1 o2
+    absent_as_new cs s b r =
+        absent_begun s _ _ _ (new_tracks cs s b) r.0 r.1 r.2
         ∙ sym (clock_begun (told_last None cs) s (told_tellable None cs tt))

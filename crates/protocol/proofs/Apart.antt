@@ -4,7 +4,7 @@ use Rattle.refusal.specs.declared.Refusal.{Refusal}
 use Rattle.resource.specs.Meaning.{Meaning}
 use Rattle.protocol.specs.Calls.{Stand, Answer}
 use Rattle.protocol.specs.Runs.{Call, clock, at, Shelf, new, answer, step, run, names, only, answers}
-use Rattle.protocol.specs.Laws.{SlotsApart}
+use Rattle.protocol.specs.Laws.{Alike, SlotsApart}
 
 module _ {S : Type 0} (M : Meaning S) (made : M.Made) where
   -- every slot as this one
@@ -50,8 +50,12 @@ module _ {S : Type 0} (M : Meaning S) (made : M.Made) where
       go true e r = λ i. answered s c h e i ∷ (r ∙ ap (local_answers s (only s cs)) (named s c h e)) i
       go false e r = r ∙ ap (local_answers s (only s cs)) (unnamed s c h e)
 
-  pub slots_apart : SlotsApart M made
-  slots_apart cs ds s h e = (
-    same_answers cs (new M made) s ∙ ap (λ l. local_answers s l (new M made s)) e ∙ sym (same_answers ds (new M made) s),
-    same_run cs (new M made) s ∙ ap (λ l. local_run s l (new M made s)) e ∙ sym (same_run ds (new M made) s),
+  -- from two shelves that have the same of a slot
+  pub onward : (s : ℕ) (cs ds : List Call) (h k : Shelf M made) → h s ≡ k s → only s cs ≡ only s ds → Alike M made s cs h ds k
+  onward s cs ds h k same e = (
+    same_answers cs h s ∙ (λ i. local_answers s (e i) (same i)) ∙ sym (same_answers ds k s),
+    same_run cs h s ∙ (λ i. local_run s (e i) (same i)) ∙ sym (same_run ds k s),
   )
+
+  pub slots_apart : SlotsApart M made
+  slots_apart cs ds s b e = onward s cs ds (new M made) (new M made) refl e

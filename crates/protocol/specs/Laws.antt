@@ -28,6 +28,10 @@ hands_turn (Ok turn_back) = false
 hands_turn (Ok (wrote bs t)) = t
 hands_turn (Err e) = false
 
+-- a slot is absent, and no turn of it is out
+abbrev pub Rests : Page → Type 0
+Rests p = (p.present ≡ false) × ((p.line 1).out ≡ false) × ((p.line 2).out ≡ false)
+
 module _ {S : Type 0} (M : Meaning S) (made : M.Made) where
   -- what the ledger is told of a call that a slot answered so
   abbrev pub telling : ℕ → Result Answer Refusal → Stand M.Share → Told
@@ -63,15 +67,23 @@ module _ {S : Type 0} (M : Meaning S) (made : M.Made) where
   abbrev pub SessionsAgree : Type 0
   SessionsAgree = (cs : List Call) (s : ℕ) → s < 4 → Agrees s (run M made cs (new M made) s) (ledger cs s)
 
-  -- two lists with the same clock calls and the same calls of a slot give the slot the same answers, and leave the same of it
+  -- one list on from a shelf and one on from another give a slot the same answers, and leave the same of it
+  abbrev pub Alike : ℕ → List Call → Shelf M made → List Call → Shelf M made → Type 0
+  Alike s cs h ds k = (answers M made s cs h ≡ answers M made s ds k) × (run M made cs h s ≡ run M made ds k s)
+
+  -- two lists with the same clock calls and the same calls of a slot come to the same for it
   abbrev pub SlotsApart : Type 0
-  SlotsApart = (cs ds : List Call) (s : ℕ) → s < 4 → only s cs ≡ only s ds
-      → (answers M made s cs (new M made) ≡ answers M made s ds (new M made)) × (run M made cs (new M made) s ≡ run M made ds (new M made) s)
+  SlotsApart = (cs ds : List Call) (s : ℕ) → s < 4 → only s cs ≡ only s ds → Alike s cs (new M made) ds (new M made)
 
   -- an absent slot with no turn out is as in a new host that was told the last time alone
   abbrev pub AbsentAsNew : Type 0
-  AbsentAsNew = (cs : List Call) (s : ℕ) → s < 4 → (ledger cs s).present ≡ false → ((ledger cs s).line 1).out ≡ false → ((ledger cs s).line 2).out ≡ false
-      → run M made cs (new M made) s ≡ run M made (clock_alone (told_last None cs)) (new M made) s
+  AbsentAsNew = (cs : List Call) (s : ℕ) → s < 4 → Rests (ledger cs s) → run M made cs (new M made) s ≡ run M made (clock_alone (told_last None cs)) (new M made) s
+
+  -- a spare host takes over a slot: after the calls to each the slot is absent with no turn out, and each was told the same time last;
+  -- from there on, the same clock calls and the same calls of the slot come to the same for it
+  abbrev pub SpareTakesOver : Type 0
+  SpareTakesOver = (cs ds es fs : List Call) (s : ℕ) → s < 4 → Rests (ledger cs s) → Rests (ledger ds s) → told_last None cs ≡ told_last None ds → only s es ≡ only s fs
+      → Alike s es (run M made cs (new M made)) fs (run M made ds (new M made))
 
   -- 152 bytes are room enough for every command, and none that is written is longer
   pub record Room : Type 0 where
@@ -84,8 +96,9 @@ module _ {S : Type 0} (M : Meaning S) (made : M.Made) where
     pub agrees : (s : ℕ) → s < 4 → Agrees s (h s) (ledger cs s)
     pub apart : (s : ℕ) → s < 4 → (ds : List Call) → only s cs ≡ only s ds
         → (answers M made s cs (new M made) ≡ answers M made s ds (new M made)) × (h s ≡ run M made ds (new M made) s)
-    pub absent : (s : ℕ) → s < 4 → (ledger cs s).present ≡ false → ((ledger cs s).line 1).out ≡ false → ((ledger cs s).line 2).out ≡ false
-        → h s ≡ run M made (clock_alone (told_last None cs)) (new M made) s
+    pub absent : (s : ℕ) → s < 4 → Rests (ledger cs s) → h s ≡ run M made (clock_alone (told_last None cs)) (new M made) s
+    pub spare : (s : ℕ) → s < 4 → Rests (ledger cs s) → (ds es fs : List Call) → Rests (ledger ds s) → told_last None cs ≡ told_last None ds → only s es ≡ only s fs
+        → Alike s es h fs (run M made ds (new M made))
 
   abbrev pub StandsAtFirst : Type 0
   StandsAtFirst = Stands [] (new M made)

@@ -1,7 +1,7 @@
 // What a host keeps of a slot, and the laws of its calls over every resource.
 #![tactic(auto)]
 
-ghost use Rattle.protocol.specs.Laws.{RecordsSound, SessionsAgree, SlotsApart, AbsentAsNew, Room, StandsAtFirst, StandsOn};
+ghost use Rattle.protocol.specs.Laws.{RecordsSound, SessionsAgree, SlotsApart, AbsentAsNew, SpareTakesOver, Room, StandsAtFirst, StandsOn};
 ghost use Rattle.protocol.specs.Wire.{Wire};
 
 use resource::Resource;
@@ -54,6 +54,11 @@ pub fn slots_apart<R: Resource>()
 // An absent slot with no turn out is as in a new host that was told the time.
 pub fn absent_as_new<R: Resource>()
     ensures { (made : R.Resource.meaning.Made) → AbsentAsNew R.Resource.meaning made }
+{}
+
+// A spare host takes over a slot that is absent with no turn out in both: from there on, what is called of the slot comes to the same.
+pub fn spare_takes_over<R: Resource>()
+    ensures { (made : R.Resource.meaning.Made) → SpareTakesOver R.Resource.meaning made }
 {}
 
 // A new host stands for no calls, and one that stands for a list of calls stands for the list with one call more.

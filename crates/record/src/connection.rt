@@ -35,7 +35,7 @@ fn part(bytes: &[u8], start: usize, n: usize) -> &[u8]
 }
 
 impl Connection {
-    pub fn new() -> Connection
+    pub(crate) fn new() -> Connection
         ensures { conn_of result ≡ stripped State.Idle false }
     {
         Connection {
@@ -85,7 +85,7 @@ impl Connection {
     }
 
     // It loses all but the mark of its turn.
-    pub fn bare(&mut self, state: State, out: bool)
+    pub(crate) fn bare(&mut self, state: State, out: bool)
         ensures { conn_of self.new ≡ stripped state out }
     {
         self.state = state;
@@ -97,7 +97,7 @@ impl Connection {
     }
 
     // A command was written, and the turn is out.
-    pub fn send(&mut self, state: State)
+    pub(crate) fn send(&mut self, state: State)
         ensures { conn_of self.new ≡ sent state (conn_of self.old) }
     {
         self.state = state;
@@ -105,35 +105,35 @@ impl Connection {
         self.owed = None;
     }
 
-    pub fn owe(&mut self, owed: Owed<Piece>)
+    pub(crate) fn owe(&mut self, owed: Owed<Piece>)
         ensures { conn_of self.new ≡ owing (owed_of owed) (conn_of self.old) }
     {
         self.owed = Some(owed);
     }
 
     // The mark of the turn goes.
-    pub fn unmark(&mut self)
+    pub(crate) fn unmark(&mut self)
         ensures { conn_of self.new ≡ unmarked (conn_of self.old) }
     {
         self.out = false;
     }
 
     // A fragment joins those before it, if there is room. Whether there was is a bool, as of an insertion into a set: nothing else is to be told.
-    pub fn join(&mut self, more: &[u8]) -> bool
+    pub(crate) fn join(&mut self, more: &[u8]) -> bool
         ensures { adding (nat_le (length (conn_of self.old).fragments + length more.now) 1024) (joining more.now) (conn_of self.old) ≡ (result, conn_of self.new) }
     {
         self.fragments.try_extend_from_slice(more).is_ok()
     }
 
     // The first n bytes of the fragments are left.
-    pub fn cut(&mut self, n: usize)
+    pub(crate) fn cut(&mut self, n: usize)
         ensures { conn_of self.new ≡ fragments_to (take n (conn_of self.old).fragments) (conn_of self.old) }
     {
         self.fragments.truncate(n);
     }
 
     // A part of the fragments joins the data, if there is room; whether there was is told as by `join`.
-    pub fn chain(&mut self, start: usize, n: usize) -> bool
+    pub(crate) fn chain(&mut self, start: usize, n: usize) -> bool
         ensures { adding (nat_le (length (conn_of self.old).chained + length (part_of start n (conn_of self.old))) 2048) (chaining start n) (conn_of self.old) ≡ (result, conn_of self.new) }
     {
         let more = part(self.fragments.as_slice(), start, n);
@@ -141,14 +141,14 @@ impl Connection {
     }
 
     // The first n bytes of the data are left.
-    pub fn cut_data(&mut self, n: usize)
+    pub(crate) fn cut_data(&mut self, n: usize)
         ensures { conn_of self.new ≡ chained_to (take n (conn_of self.old).chained) (conn_of self.old) }
     {
         self.chained.truncate(n);
     }
 
     // A whole unit was heard, and the data stay.
-    pub fn hear(&mut self, available: bool)
+    pub(crate) fn hear(&mut self, available: bool)
         ensures { conn_of self.new ≡ heard available (conn_of self.old).chained (conn_of self.old) }
     {
         self.state = State::Active;
@@ -158,7 +158,7 @@ impl Connection {
     }
 
     // A whole unit was heard, and the data are read.
-    pub fn hear_all(&mut self, available: bool)
+    pub(crate) fn hear_all(&mut self, available: bool)
         ensures { conn_of self.new ≡ heard available [] (conn_of self.old) }
     {
         self.hear(available);

@@ -25,6 +25,17 @@ mod tests {
         got.is_some_and(|piece| piece.bytes() == bytes)
     }
 
+    const DATE_TIME_OBJECTS: &[(u32, &'static [u8], Answer<'static>)] = &[
+        (
+            0x9F8440,
+            &[0],
+            Ok(Some(&[0x9F, 0x84, 0x41, 5, 0xC0, 0x79, 0x12, 0x45, 0x00])),
+        ),
+        (0x9F8440, &[], Err(Refused(1))),
+        (0x9F8440, &[0, 0], Err(Refused(1))),
+        (0x9F8441, &[0], Ok(None)),
+    ];
+
     #[test]
     fn date_time(rt: HostRuntime) {
         let mut r = DateTime::resource();
@@ -38,17 +49,7 @@ mod tests {
         r.opened(0, DATE_TIME, 1);
         assert_eq!(rt; said(&r.object(0, DATE_TIME, 1, asks)), Ok(None));
         r.clock([0xC0, 0x79, 0x12, 0x45, 0x00]);
-        let table: [(u32, &[u8], Answer<'_>); 4] = [
-            (
-                0x9F8440,
-                &[0],
-                Ok(Some(&[0x9F, 0x84, 0x41, 5, 0xC0, 0x79, 0x12, 0x45, 0x00])),
-            ),
-            (0x9F8440, &[], Err(Refused(1))),
-            (0x9F8440, &[0, 0], Err(Refused(1))),
-            (0x9F8441, &[0], Ok(None)),
-        ];
-        for (tag, body, expected) in table {
+        for &(tag, body, expected) in DATE_TIME_OBJECTS {
             assert_eq!(rt;
                 said(&r.object(0, DATE_TIME, 1, Apdu { tag, body })),
                 expected
@@ -66,35 +67,36 @@ mod tests {
         );
     }
 
+    const MANAGER_OBJECTS: &[(u8, u32, &'static [u8], Answer<'static>)] = &[
+        (
+            1,
+            0x9F8010,
+            &[],
+            Ok(Some(&[0x9F, 0x80, 0x11, 8, 0, 1, 0, 0x41, 0, 0x24, 0, 0x41])),
+        ),
+        (1, 0x9F8010, &[0], Err(Refused(1))),
+        (1, 0x9F8011, &[0, 1, 0], Err(Refused(1))),
+        (
+            1,
+            0x9F8011,
+            &[0, 1, 0, 0x41],
+            Ok(Some(&[0x9F, 0x80, 0x12, 0])),
+        ),
+        (1, 0x9F8011, &[], Ok(None)),
+        (16, 0x9F8011, &[], Ok(Some(&[0x9F, 0x80, 0x12, 0]))),
+        (16, 0x9F8011, &[], Ok(None)),
+        (16, 0x9F8012, &[], Ok(Some(&[0x9F, 0x80, 0x10, 0]))),
+        (16, 0x9F8012, &[0], Err(Refused(1))),
+        (16, 0x9F8020, &[], Ok(None)),
+    ];
+
     #[test]
     fn manager(rt: HostRuntime) {
         let mut r = Manager::resource(&[RESOURCE_MANAGER, DATE_TIME]);
         assert!(rt; greets(r.greeting(RESOURCE_MANAGER), &[0x9F, 0x80, 0x10, 0]));
         r.opened(2, RESOURCE_MANAGER, 1);
         r.opened(2, RESOURCE_MANAGER, 16);
-        let table: [(u8, u32, &[u8], Answer<'_>); 10] = [
-            (
-                1,
-                0x9F8010,
-                &[],
-                Ok(Some(&[0x9F, 0x80, 0x11, 8, 0, 1, 0, 0x41, 0, 0x24, 0, 0x41])),
-            ),
-            (1, 0x9F8010, &[0], Err(Refused(1))),
-            (1, 0x9F8011, &[0, 1, 0], Err(Refused(1))),
-            (
-                1,
-                0x9F8011,
-                &[0, 1, 0, 0x41],
-                Ok(Some(&[0x9F, 0x80, 0x12, 0])),
-            ),
-            (1, 0x9F8011, &[], Ok(None)),
-            (16, 0x9F8011, &[], Ok(Some(&[0x9F, 0x80, 0x12, 0]))),
-            (16, 0x9F8011, &[], Ok(None)),
-            (16, 0x9F8012, &[], Ok(Some(&[0x9F, 0x80, 0x10, 0]))),
-            (16, 0x9F8012, &[0], Err(Refused(1))),
-            (16, 0x9F8020, &[], Ok(None)),
-        ];
-        for (number, tag, body, expected) in table {
+        for &(number, tag, body, expected) in MANAGER_OBJECTS {
             assert_eq!(rt;
                 said(&r.object(2, RESOURCE_MANAGER, number, Apdu { tag, body })),
                 expected
@@ -114,18 +116,19 @@ mod tests {
         assert_eq!(rt; said(&first), Ok(Some([0x9F, 0x80, 0x12, 0].as_slice())));
     }
 
+    const INFORMATION_OBJECTS: &[(u32, &'static [u8], Answer<'static>)] = &[
+        (0x9F8021, &[1, 2, 3, 4, 5, 2, 0x48, 0x69], Ok(None)),
+        (0x9F8021, &[1, 2, 3, 4, 5, 2, 0x48], Err(Refused(1))),
+        (0x9F8021, &[1, 2, 3, 4, 5], Err(Refused(1))),
+        (0x9F8020, &[], Ok(None)),
+    ];
+
     #[test]
     fn information(rt: HostRuntime) {
         let mut r = Information::resource();
         assert!(rt; greets(r.greeting(APPLICATION_INFORMATION), &[0x9F, 0x80, 0x20, 0]));
         r.opened(1, APPLICATION_INFORMATION, 3);
-        let table: [(u32, &[u8], Answer<'_>); 4] = [
-            (0x9F8021, &[1, 2, 3, 4, 5, 2, 0x48, 0x69], Ok(None)),
-            (0x9F8021, &[1, 2, 3, 4, 5, 2, 0x48], Err(Refused(1))),
-            (0x9F8021, &[1, 2, 3, 4, 5], Err(Refused(1))),
-            (0x9F8020, &[], Ok(None)),
-        ];
-        for (tag, body, expected) in table {
+        for &(tag, body, expected) in INFORMATION_OBJECTS {
             assert_eq!(rt;
                 said(&r.object(1, APPLICATION_INFORMATION, 3, Apdu { tag, body })),
                 expected

@@ -48,27 +48,31 @@ mod tests {
     use tpdu::{Command, Object, TpduReader, write_command};
     use writer::{WriteFault, write_length};
 
+    // A unit, and its fault where it has one.
+    type Case = (&'static [u8], Option<Fault>);
+
     fn length(bytes: &[u8]) -> Option<usize> {
         Cursor::new(bytes).length().ok()
     }
 
+    const LENGTHS: &[(&'static [u8], Option<usize>)] = &[
+        (&[0x7F], Some(127)),
+        (&[0x00, 0x05], Some(0)),
+        (&[0x81, 0x80], Some(128)),
+        (&[0x81, 0x05], Some(5)),
+        (&[0x82, 0x01, 0x00], Some(256)),
+        (&[0x82, 0x00, 0x05], Some(5)),
+        (&[], None),
+        (&[0x80], None),
+        (&[0x81], None),
+        (&[0x82, 0x01], None),
+        (&[0x83, 0x00, 0x00, 0x05], None),
+    ];
+
     #[test]
     fn lengths(rt: HostRuntime) {
-        let table: [(&[u8], Option<usize>); 11] = [
-            (&[0x7F], Some(127)),
-            (&[0x00, 0x05], Some(0)),
-            (&[0x81, 0x80], Some(128)),
-            (&[0x81, 0x05], Some(5)),
-            (&[0x82, 0x01, 0x00], Some(256)),
-            (&[0x82, 0x00, 0x05], Some(5)),
-            (&[], None),
-            (&[0x80], None),
-            (&[0x81], None),
-            (&[0x82, 0x01], None),
-            (&[0x83, 0x00, 0x00, 0x05], None),
-        ];
-        for (bytes, value) in table {
-            assert_eq!(rt; length(bytes), value);
+        for (bytes, value) in LENGTHS {
+            assert_eq!(rt; length(bytes), *value);
         }
     }
 
@@ -76,20 +80,21 @@ mod tests {
         LpduReader::new(bytes).fragment(16, 1).err()
     }
 
+    const LINK_UNITS: &[(&'static [u8], Option<LinkFault>)] = &[
+        (&[0x01, 0x00, 0xAA], None),
+        (&[0x01, 0x80, 0xAA], None),
+        (&[0x01; 16], Some(LinkFault::Mark)),
+        (&[], Some(LinkFault::Short)),
+        (&[0x02, 0x01], Some(LinkFault::Short)),
+        (&[0x02; 17], Some(LinkFault::Long)),
+        (&[0x02, 0x01, 0xAA], Some(LinkFault::Connection)),
+        (&[0x01, 0x40, 0xAA], Some(LinkFault::Mark)),
+    ];
+
     #[test]
     fn link_units(rt: HostRuntime) {
-        let table: [(&[u8], Option<LinkFault>); 8] = [
-            (&[0x01, 0x00, 0xAA], None),
-            (&[0x01, 0x80, 0xAA], None),
-            (&[0x01; 16], Some(LinkFault::Mark)),
-            (&[], Some(LinkFault::Short)),
-            (&[0x02, 0x01], Some(LinkFault::Short)),
-            (&[0x02; 17], Some(LinkFault::Long)),
-            (&[0x02, 0x01, 0xAA], Some(LinkFault::Connection)),
-            (&[0x01, 0x40, 0xAA], Some(LinkFault::Mark)),
-        ];
-        for (bytes, fault) in table {
-            assert_eq!(rt; link_fault(bytes), fault);
+        for (bytes, fault) in LINK_UNITS {
+            assert_eq!(rt; link_fault(bytes), *fault);
         }
     }
 
@@ -100,40 +105,41 @@ mod tests {
             .map(|fault| fault.0)
     }
 
+    const MODULE_TRANSPORT_UNITS: &[Case] = &[
+        (&[0x80, 0x02, 0x01, 0x00], None),
+        (&[0x80, 0x81, 0x02, 0x01, 0x7F], None),
+        (&[0x83, 0x01, 0x01, 0x80, 0x02, 0x01, 0x00], None),
+        (
+            &[0x84, 0x82, 0x00, 0x01, 0x01, 0x80, 0x02, 0x01, 0x80],
+            None,
+        ),
+        (&[0x85, 0x01, 0x01, 0x80, 0x02, 0x01, 0x00], None),
+        (&[0x86, 0x01, 0x01, 0x80, 0x02, 0x01, 0x00], None),
+        (&[0xA0, 0x01, 0x01, 0x80, 0x02, 0x01, 0x00], None),
+        (&[0xA1, 0x02, 0x01, 0xAA, 0x80, 0x02, 0x01, 0x00], None),
+        (&[], Some(Fault::Length)),
+        (&[0x81, 0x01, 0x01], Some(Fault::Tag)),
+        (&[0x82, 0x01, 0x01], Some(Fault::Tag)),
+        (&[0x87, 0x02, 0x01, 0x02], Some(Fault::Tag)),
+        (&[0x80, 0x03, 0x01, 0x00, 0x00], Some(Fault::Length)),
+        (&[0x80, 0x02, 0x01], Some(Fault::Length)),
+        (&[0x80, 0x02, 0x02, 0x00], Some(Fault::Content)),
+        (&[0x80, 0x02, 0x02, 0x00, 0x00], Some(Fault::Content)),
+        (&[0x80, 0x02, 0x01, 0x00, 0x00], Some(Fault::Length)),
+        (
+            &[0x83, 0x02, 0x01, 0x00, 0x80, 0x02, 0x01, 0x00],
+            Some(Fault::Length),
+        ),
+        (&[0xA0, 0x00, 0x80, 0x02, 0x01, 0x00], Some(Fault::Length)),
+        (&[0xA0, 0x05, 0x02, 0xAA], Some(Fault::Length)),
+        (&[0x83, 0x01, 0x01], Some(Fault::Length)),
+        (&[0x83, 0x01, 0x01, 0x83, 0x01, 0x01], Some(Fault::Tag)),
+    ];
+
     #[test]
     fn module_transport_units(rt: HostRuntime) {
-        let table: [(&[u8], Option<Fault>); 22] = [
-            (&[0x80, 0x02, 0x01, 0x00], None),
-            (&[0x80, 0x81, 0x02, 0x01, 0x7F], None),
-            (&[0x83, 0x01, 0x01, 0x80, 0x02, 0x01, 0x00], None),
-            (
-                &[0x84, 0x82, 0x00, 0x01, 0x01, 0x80, 0x02, 0x01, 0x80],
-                None,
-            ),
-            (&[0x85, 0x01, 0x01, 0x80, 0x02, 0x01, 0x00], None),
-            (&[0x86, 0x01, 0x01, 0x80, 0x02, 0x01, 0x00], None),
-            (&[0xA0, 0x01, 0x01, 0x80, 0x02, 0x01, 0x00], None),
-            (&[0xA1, 0x02, 0x01, 0xAA, 0x80, 0x02, 0x01, 0x00], None),
-            (&[], Some(Fault::Length)),
-            (&[0x81, 0x01, 0x01], Some(Fault::Tag)),
-            (&[0x82, 0x01, 0x01], Some(Fault::Tag)),
-            (&[0x87, 0x02, 0x01, 0x02], Some(Fault::Tag)),
-            (&[0x80, 0x03, 0x01, 0x00, 0x00], Some(Fault::Length)),
-            (&[0x80, 0x02, 0x01], Some(Fault::Length)),
-            (&[0x80, 0x02, 0x02, 0x00], Some(Fault::Content)),
-            (&[0x80, 0x02, 0x02, 0x00, 0x00], Some(Fault::Content)),
-            (&[0x80, 0x02, 0x01, 0x00, 0x00], Some(Fault::Length)),
-            (
-                &[0x83, 0x02, 0x01, 0x00, 0x80, 0x02, 0x01, 0x00],
-                Some(Fault::Length),
-            ),
-            (&[0xA0, 0x00, 0x80, 0x02, 0x01, 0x00], Some(Fault::Length)),
-            (&[0xA0, 0x05, 0x02, 0xAA], Some(Fault::Length)),
-            (&[0x83, 0x01, 0x01], Some(Fault::Length)),
-            (&[0x83, 0x01, 0x01, 0x83, 0x01, 0x01], Some(Fault::Tag)),
-        ];
-        for (bytes, fault) in table {
-            assert_eq!(rt; response_fault(bytes), fault);
+        for (bytes, fault) in MODULE_TRANSPORT_UNITS {
+            assert_eq!(rt; response_fault(bytes), *fault);
         }
     }
 
@@ -141,25 +147,26 @@ mod tests {
         TpduReader::new(bytes).command(1).err().map(|fault| fault.0)
     }
 
+    const HOST_TRANSPORT_UNITS: &[Case] = &[
+        (&[0x82, 0x01, 0x01], None),
+        (&[0x84, 0x01, 0x01], None),
+        (&[0x85, 0x01, 0x01], None),
+        (&[0x81, 0x01, 0x01], None),
+        (&[0xA0, 0x01, 0x01], None),
+        (&[0x87, 0x02, 0x01, 0x02], None),
+        (&[0x88, 0x02, 0x01, 0x01], None),
+        (&[], Some(Fault::Length)),
+        (&[0x83, 0x01, 0x01], Some(Fault::Tag)),
+        (&[0xA1, 0x01, 0x01], Some(Fault::Tag)),
+        (&[0x87, 0x01, 0x01], Some(Fault::Length)),
+        (&[0x82, 0x01, 0x02], Some(Fault::Content)),
+        (&[0x82, 0x01, 0x01, 0x80], Some(Fault::Length)),
+    ];
+
     #[test]
     fn host_transport_units(rt: HostRuntime) {
-        let table: [(&[u8], Option<Fault>); 13] = [
-            (&[0x82, 0x01, 0x01], None),
-            (&[0x84, 0x01, 0x01], None),
-            (&[0x85, 0x01, 0x01], None),
-            (&[0x81, 0x01, 0x01], None),
-            (&[0xA0, 0x01, 0x01], None),
-            (&[0x87, 0x02, 0x01, 0x02], None),
-            (&[0x88, 0x02, 0x01, 0x01], None),
-            (&[], Some(Fault::Length)),
-            (&[0x83, 0x01, 0x01], Some(Fault::Tag)),
-            (&[0xA1, 0x01, 0x01], Some(Fault::Tag)),
-            (&[0x87, 0x01, 0x01], Some(Fault::Length)),
-            (&[0x82, 0x01, 0x02], Some(Fault::Content)),
-            (&[0x82, 0x01, 0x01, 0x80], Some(Fault::Length)),
-        ];
-        for (bytes, fault) in table {
-            assert_eq!(rt; command_fault(bytes), fault);
+        for (bytes, fault) in HOST_TRANSPORT_UNITS {
+            assert_eq!(rt; command_fault(bytes), *fault);
         }
     }
 
@@ -171,38 +178,40 @@ mod tests {
         SpduReader::new(bytes).reply().err().map(|fault| fault.0)
     }
 
+    const REQUESTS: &[Case] = &[
+        (&[0x91, 0x04, 0x00, 0x01, 0x00, 0x41], None),
+        (&[0x95, 0x02, 0x00, 0x01], None),
+        (&[0x90, 0x02, 0x00, 0x01], None),
+        (&[0x90, 0x81, 0x02, 0x00, 0x01, 0x9F], None),
+        (&[], Some(Fault::Length)),
+        (&[0x92, 0x07], Some(Fault::Tag)),
+        (&[0x91, 0x03, 0x00, 0x01, 0x00], Some(Fault::Length)),
+        (&[0x95, 0x02, 0x00, 0x01, 0x00], Some(Fault::Length)),
+        (&[0x90, 0x02, 0x00], Some(Fault::Length)),
+    ];
+
+    const REPLIES: &[Case] = &[
+        (
+            &[0x92, 0x07, 0x00, 0x00, 0x01, 0x00, 0x41, 0x00, 0x01],
+            None,
+        ),
+        (&[0x96, 0x03, 0xF0, 0x00, 0x01], None),
+        (&[0x90, 0x02, 0x00, 0x01, 0x9F, 0x80, 0x10, 0x00], None),
+        (&[0x91, 0x04, 0x00, 0x01, 0x00, 0x41], Some(Fault::Tag)),
+        (
+            &[0x92, 0x06, 0x00, 0x00, 0x01, 0x00, 0x41, 0x00],
+            Some(Fault::Length),
+        ),
+        (&[0x96, 0x03, 0x00, 0x00, 0x01, 0x00], Some(Fault::Length)),
+    ];
+
     #[test]
     fn session_units(rt: HostRuntime) {
-        let asked: [(&[u8], Option<Fault>); 9] = [
-            (&[0x91, 0x04, 0x00, 0x01, 0x00, 0x41], None),
-            (&[0x95, 0x02, 0x00, 0x01], None),
-            (&[0x90, 0x02, 0x00, 0x01], None),
-            (&[0x90, 0x81, 0x02, 0x00, 0x01, 0x9F], None),
-            (&[], Some(Fault::Length)),
-            (&[0x92, 0x07], Some(Fault::Tag)),
-            (&[0x91, 0x03, 0x00, 0x01, 0x00], Some(Fault::Length)),
-            (&[0x95, 0x02, 0x00, 0x01, 0x00], Some(Fault::Length)),
-            (&[0x90, 0x02, 0x00], Some(Fault::Length)),
-        ];
-        for (bytes, fault) in asked {
-            assert_eq!(rt; request_fault(bytes), fault);
+        for (bytes, fault) in REQUESTS {
+            assert_eq!(rt; request_fault(bytes), *fault);
         }
-        let told: [(&[u8], Option<Fault>); 6] = [
-            (
-                &[0x92, 0x07, 0x00, 0x00, 0x01, 0x00, 0x41, 0x00, 0x01],
-                None,
-            ),
-            (&[0x96, 0x03, 0xF0, 0x00, 0x01], None),
-            (&[0x90, 0x02, 0x00, 0x01, 0x9F, 0x80, 0x10, 0x00], None),
-            (&[0x91, 0x04, 0x00, 0x01, 0x00, 0x41], Some(Fault::Tag)),
-            (
-                &[0x92, 0x06, 0x00, 0x00, 0x01, 0x00, 0x41, 0x00],
-                Some(Fault::Length),
-            ),
-            (&[0x96, 0x03, 0x00, 0x00, 0x01, 0x00], Some(Fault::Length)),
-        ];
-        for (bytes, fault) in told {
-            assert_eq!(rt; reply_fault(bytes), fault);
+        for (bytes, fault) in REPLIES {
+            assert_eq!(rt; reply_fault(bytes), *fault);
         }
     }
 
@@ -210,24 +219,25 @@ mod tests {
         ApduReader::new(bytes).object().err().map(|fault| fault.0)
     }
 
+    const APPLICATION_OBJECTS: &[Case] = &[
+        (&[0x9F, 0x80, 0x10, 0x00], None),
+        (&[0x9F, 0x84, 0x40, 0x81, 0x01, 0x05], None),
+        (&[], Some(Fault::Length)),
+        (&[0x9F], Some(Fault::Length)),
+        (&[0x9F, 0x80], Some(Fault::Length)),
+        (&[0x9E], Some(Fault::Tag)),
+        (&[0x9F, 0x00], Some(Fault::Tag)),
+        (&[0x9F, 0x7F, 0x10, 0x00], Some(Fault::Tag)),
+        (&[0x9F, 0x80, 0x80, 0x00], Some(Fault::Tag)),
+        (&[0x9F, 0x80, 0x10], Some(Fault::Length)),
+        (&[0x9F, 0x80, 0x10, 0x01], Some(Fault::Length)),
+        (&[0x9F, 0x80, 0x10, 0x00, 0x00], Some(Fault::Length)),
+    ];
+
     #[test]
     fn application_objects(rt: HostRuntime) {
-        let table: [(&[u8], Option<Fault>); 12] = [
-            (&[0x9F, 0x80, 0x10, 0x00], None),
-            (&[0x9F, 0x84, 0x40, 0x81, 0x01, 0x05], None),
-            (&[], Some(Fault::Length)),
-            (&[0x9F], Some(Fault::Length)),
-            (&[0x9F, 0x80], Some(Fault::Length)),
-            (&[0x9E], Some(Fault::Tag)),
-            (&[0x9F, 0x00], Some(Fault::Tag)),
-            (&[0x9F, 0x7F, 0x10, 0x00], Some(Fault::Tag)),
-            (&[0x9F, 0x80, 0x80, 0x00], Some(Fault::Tag)),
-            (&[0x9F, 0x80, 0x10], Some(Fault::Length)),
-            (&[0x9F, 0x80, 0x10, 0x01], Some(Fault::Length)),
-            (&[0x9F, 0x80, 0x10, 0x00, 0x00], Some(Fault::Length)),
-        ];
-        for (bytes, fault) in table {
-            assert_eq!(rt; object_fault(bytes), fault);
+        for (bytes, fault) in APPLICATION_OBJECTS {
+            assert_eq!(rt; object_fault(bytes), *fault);
         }
     }
 
