@@ -10,7 +10,6 @@ use std::alloc::AllocError;
 use std::io;
 use std::io::{BufReader, Read};
 
-mod outcome;
 mod request;
 
 // Plays the calls of an input to a new player over a resource, and then tells the sessions that are open and the turns that are out.
@@ -150,56 +149,4 @@ pub fn help(rt: &impl Print) -> io::Result<()> {
     println!(rt; "  expire SLOT CONNECTION          no answer of the module comes in")?;
     println!(rt; "  # ..                            a comment; blank lines are passed over too")?;
     println!(rt; "At the end of the input it tells the open sessions, and the turns that are out.")
-}
-
-#[cfg(test)]
-mod tests {
-    use super::*;
-    use date_time::DateTime;
-    use std::fmt::Display;
-    use std::io::ErrorKind;
-
-    // Gives its bytes, and then fails.
-    #[derive(Drop)]
-    struct Failing<'a>(&'a [u8]);
-
-    impl Read for Failing<'_> {
-        fn read(&mut self, buf: &mut [u8]) -> io::Result<usize> {
-            if self.0.is_empty() {
-                return Err(io::Error::from(ErrorKind::NotConnected));
-            }
-            self.0.read(buf)
-        }
-    }
-
-    // Prints nothing, and fails.
-    #[derive(Drop)]
-    struct Closed;
-
-    impl Print for Closed {
-        fn print<D: Display + Drop>(&self, value: D) -> io::Result<()> {
-            Err(io::Error::from(ErrorKind::BrokenPipe))
-        }
-
-        fn println<D: Display + Drop>(&self, value: D) -> io::Result<()> {
-            Err(io::Error::from(ErrorKind::BrokenPipe))
-        }
-
-        fn write_all(&self, bytes: &[u8]) -> io::Result<()> {
-            Err(io::Error::from(ErrorKind::BrokenPipe))
-        }
-    }
-
-    #[test]
-    fn failures_are_told(rt: HostRuntime) {
-        let inputs: [&[u8]; 3] = [b"", b"pull 0\n", b"plug 0 16\npull 0"];
-        for input in inputs {
-            let failed = play(&rt, DateTime::resource(), Failing(input));
-            assert!(rt; failed.is_err_and(|e| e.kind() == ErrorKind::NotConnected));
-        }
-        let closed = (Closed, rt.alloc());
-        let input: &[u8] = b"plug 0 16\n";
-        let failed = play(&closed, DateTime::resource(), input);
-        assert!(rt; failed.is_err_and(|e| e.kind() == ErrorKind::BrokenPipe));
-    }
 }

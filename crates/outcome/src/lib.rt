@@ -1,4 +1,9 @@
-// What a call comes to, in words.
+// How the answer to a call prints.
+#![tactic(auto)]
+
+ghost use Rattle.std.specs.Prelude.{Some};
+ghost use Rattle.outcome.specs.Words.{refused, answered};
+
 use account::HexByte;
 use cursor::fault::{ObjectFault, SessionFault, TransportFault};
 use player::Answer;
@@ -10,6 +15,8 @@ use std::fmt;
 struct Numbered(Refusal);
 
 impl fmt::Display for Numbered {
+    ghost output = { λ x. Some (refused x.0) };
+
     fn fmt<W: fmt::Write>(&self, f: &mut fmt::Formatter<W>) -> fmt::Result {
         let number = self.0.number();
         write!(f, "refused {number}")?;
@@ -32,6 +39,8 @@ pub struct Outcome<'a> {
 }
 
 impl fmt::Display for Outcome<'_> {
+    ghost output = { λ x. Some (answered x.answer x.out.now) };
+
     fn fmt<W: fmt::Write>(&self, f: &mut fmt::Formatter<W>) -> fmt::Result {
         match self.answer {
             Ok(Answer::Done) => f.write_str("ok"),
