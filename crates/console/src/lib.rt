@@ -11,7 +11,6 @@ use std::io;
 use std::io::{BufReader, Read};
 
 mod outcome;
-mod request;
 
 // Plays the calls of an input to a new player over a resource, and then tells the sessions that are open and the turns that are out.
 pub fn play<R: Resource + Drop, I: Read + Drop>(
