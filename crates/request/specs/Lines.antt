@@ -9,49 +9,49 @@ use Rattle.request.specs.declared.Request.{Request}
 use Rattle.request.specs.declared.LineError.{LineError}
 use Rattle.request.specs.declared.LineError.TheVariants.{Bad, Memory}
 use Rattle.request.specs.Calls.{Asked, plain}
-use Rattle.request.specs.Words.{words, onward, number, place, byte, bytes, first, others, first_room, ended}
+use Rattle.request.specs.Words.{words, result_map, onward, number, place, byte, bytes, first, others, first_room, ended}
 
-abbrev pub result_map : {X Y E : Type 0} → (X → Y) → Result X E → Result Y E
-result_map f (Ok x) = Ok (f x)
-result_map f (Err e) = Err e
+-- what words ask for
+abbrev pub Form : Type 0
+Form = List (List ℕ) → Result Asked Reason
 
--- a word, and what is asked by it and those after it
-abbrev pub then : {X : Type 0} → (List (List ℕ) → Result X Reason) → (X → List (List ℕ) → Result Asked Reason) → List (List ℕ) → Result Asked Reason
+-- something that the first word tells, and then what the others ask for
+abbrev pub then : {X : Type 0} → (List (List ℕ) → Result X Reason) → (X → Form) → Form
 then read f ws = onward (λ x. f x (others ws)) (read ws)
 
--- this, where no word is left
-abbrev pub whole : Asked → List (List ℕ) → Result Asked Reason
-whole a ws = onward (λ z. Ok a) (ended ws)
-
-abbrev by_place : (ℕ → List (List ℕ) → Result Asked Reason) → List (List ℕ) → Result Asked Reason
+abbrev by_place : (ℕ → Form) → Form
 by_place = then (first place)
 
-abbrev by_byte : (ℕ → List (List ℕ) → Result Asked Reason) → List (List ℕ) → Result Asked Reason
+abbrev by_byte : (ℕ → Form) → Form
 by_byte = then (first byte)
 
-abbrev pub clock : List (List ℕ) → Result Asked Reason
+-- this, where no word is left
+abbrev pub whole : Asked → Form
+whole a ws = onward (λ z. Ok a) (ended ws)
+
+abbrev pub clock : Form
 clock = by_byte (λ a. by_byte (λ b. by_byte (λ c. by_byte (λ d. by_byte (λ e. whole (plain (calls.Clock (a ∷ b ∷ c ∷ d ∷ e ∷ []))))))))
 
-abbrev pub plug : List (List ℕ) → Result Asked Reason
+abbrev pub plug : Form
 plug = by_place (λ slot. then (first number) (λ size. whole (plain (calls.Plug slot size))))
 
-abbrev pub pull : List (List ℕ) → Result Asked Reason
+abbrev pub pull : Form
 pull = by_place (λ slot. whole (plain (calls.Pull slot)))
 
-abbrev pub end : List (List ℕ) → Result Asked Reason
+abbrev pub end : Form
 end = by_place (λ slot. by_place (λ connection. whole (plain (calls.End slot connection))))
 
-abbrev pub next : List (List ℕ) → Result Asked Reason
-next = by_place (λ slot. by_place (λ connection. then first_room (λ room. whole (record { call = calls.Next slot connection; lpdu = []; room = room }))))
+abbrev pub next : Form
+next = by_place (λ slot. by_place (λ connection. then first_room (λ room. whole (record (plain (calls.Next slot connection)) { room = room }))))
 
-abbrev pub feed : List (List ℕ) → Result Asked Reason
-feed = by_place (λ slot. by_place (λ connection ws. onward (λ lpdu. Ok (record { call = calls.Feed slot connection; lpdu = lpdu; room = 0 })) (bytes ws)))
+abbrev pub feed : Form
+feed = by_place (λ slot. by_place (λ connection ws. onward (λ lpdu. Ok (record (plain (calls.Feed slot connection)) { lpdu = lpdu })) (bytes ws)))
 
-abbrev pub expire : List (List ℕ) → Result Asked Reason
+abbrev pub expire : Form
 expire = by_place (λ slot. by_place (λ connection. whole (plain (calls.Expire slot connection))))
 
--- the words after a call's name
-abbrev pub by_name : List ℕ → List (List ℕ) → Result Asked Reason
+-- what the words after a call's name ask for
+abbrev pub by_name : List ℕ → Form
 by_name name ws =
     cond (bytes_eq name (codes "clock")) (clock ws)
     (cond (bytes_eq name (codes "plug")) (plug ws)
@@ -62,10 +62,12 @@ by_name name ws =
     (cond (bytes_eq name (codes "expire")) (expire ws)
     (Err Name)))))))
 
+-- a word that begins with #
 abbrev pub comment : List ℕ → Bool
 comment [] = false
 comment (c ∷ cs) = c == 35
 
+-- no words and comments ask for nothing
 abbrev pub by_words : List (List ℕ) → Result (Option Asked) Reason
 by_words [] = Ok None
 by_words (name ∷ ws) = cond (comment name) (Ok None) (result_map Some (by_name name ws))

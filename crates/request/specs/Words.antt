@@ -1,5 +1,5 @@
 -- The words of a line, and what each is read as.
-use Rattle.std.specs.Prelude.{ℕ, ◌+◌, ◌*◌, Bool, cond, ◌&&◌, ◌||◌, List, [], ◌∷◌, length, Option, Some, None, Result, Ok, Err, ◌==◌, nat_lt}
+use Rattle.std.specs.Prelude.{ℕ, ◌+◌, ◌*◌, Bool, cond, ◌||◌, List, [], ◌∷◌, length, Option, Some, None, Result, Ok, Err, ◌==◌, nat_lt}
 use Rattle.std.specs.Char.{is_ascii_digit}
 use Rattle.std.specs.List.{list_all, filter, slice_split}
 use Rattle.std.specs.Str.Parse.{digits_value}
@@ -15,21 +15,28 @@ is_blank c = c == 32 || c == 9
 abbrev pub words : List ℕ → List (List ℕ)
 words text = filter (λ w. nat_lt 0 (length w)) (slice_split is_blank text)
 
+abbrev pub result_map : {X Y E : Type 0} → (X → Y) → Result X E → Result Y E
+result_map f (Ok x) = Ok (f x)
+result_map f (Err e) = Err e
+
 -- what is read next, unless there is a fault
 abbrev pub onward : {X Y : Type 0} → (X → Result Y Reason) → Result X Reason → Result Y Reason
 onward f (Ok x) = f x
 onward f (Err why) = Err why
 
--- a size or a room: decimal digits, below 65,536
+abbrev pub within : ℕ → ℕ → Result ℕ Reason
+within limit n = cond (nat_lt n limit) (Ok n) (Err Large)
+
+-- a size or a room: decimal digits; no word is empty
 abbrev pub number : List ℕ → Result ℕ Reason
 number word =
     cond (list_all is_ascii_digit word)
-    (cond (nat_lt 0 (length word) && nat_lt (digits_value 10 word) 65536) (Ok (digits_value 10 word)) (Err Large))
+    (cond (nat_lt 0 (length word)) (within 65536 (digits_value 10 word)) (Err Large))
     (Err Decimal)
 
 -- a slot or a connection
 abbrev pub place : List ℕ → Result ℕ Reason
-place word = onward (λ n. cond (nat_lt n 256) (Ok n) (Err Large)) (number word)
+place word = onward (within 256) (number word)
 
 abbrev pub pair : Option ℕ → Option ℕ → Result ℕ Reason
 pair None low = Err Hex
@@ -58,7 +65,7 @@ abbrev pub others : List (List ℕ) → List (List ℕ)
 others [] = []
 others (w ∷ ws) = ws
 
--- the size of an out buffer, where it is told
+-- the room that the first word tells, or 152
 abbrev pub first_room : List (List ℕ) → Result ℕ Reason
 first_room [] = Ok 152
 first_room (w ∷ ws) = number w

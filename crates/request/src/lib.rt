@@ -7,8 +7,8 @@ ghost use Rattle.std.specs.Str.{bytes_eq};
 ghost use Rattle.std.specs.Str.Lines.{strip_carriage_return};
 ghost use Rattle.request.specs.Calls.{call as call_of, lpdu as lpdu_of, room as room_of, asked};
 ghost use Rattle.request.specs.Names.{reason, request as request_text};
-ghost use Rattle.request.specs.Lines.{result_map, Answers, ran_out, answered, clock as clock_of, plug as plug_of, pull as pull_of, end as end_of, next as next_of, feed as feed_of, expire as expire_of, by_name};
-ghost use Rattle.request.specs.Words.{words as words_of};
+ghost use Rattle.request.specs.Lines.{Answers, ran_out, answered, clock as clock_of, plug as plug_of, pull as pull_of, end as end_of, next as next_of, feed as feed_of, expire as expire_of, by_name};
+ghost use Rattle.request.specs.Words.{result_map, words as words_of};
 ghost use Rattle.request.specs.declared.LineError.TheVariants.{Bad, Memory};
 
 use player::Call;
@@ -20,9 +20,6 @@ mod words;
 
 // The longest line that is read, in bytes; a carriage return at its end counts. A feed of an LPDU of 65,535 bytes is shorter.
 pub const LONGEST: usize = 200000;
-
-// The size of the out buffer of a next that tells none.
-const ROOM: u16 = 152;
 
 // A call as its line tells it. It is no `Call` of crate player, beside which the LPDU of a feed and the out buffer of a next lie.
 #[derive(Drop)]

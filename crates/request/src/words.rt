@@ -2,13 +2,16 @@
 ghost use Rattle.std.specs.Prelude.{◌≡◌, ◌∷◌, [], not, length, take_while, MatchOption, OnOk, Ok};
 ghost use Rattle.std.specs.Char.{is_ascii_digit};
 ghost use Rattle.std.specs.List.{list_all};
-ghost use Rattle.request.specs.Words.{is_blank, words, others, first, first_room, number as number_of, place as place_of, byte as byte_of, bytes as bytes_of, ended};
-ghost use Rattle.request.specs.Lines.{Answers, result_map};
+ghost use Rattle.request.specs.Words.{result_map, is_blank, words, others, first, first_room, number as number_of, place as place_of, byte as byte_of, bytes as bytes_of, ended};
+ghost use Rattle.request.specs.Lines.{Answers};
 
-use crate::{LineError, ROOM, Reason};
+use crate::{LineError, Reason};
 use hex::FromHex;
 use std::alloc::Global;
 use std::str;
+
+// The size of the out buffer of a next that tells none.
+const ROOM: u16 = 152;
 
 fn blank(c: u8) -> bool
     ensures { result ≡ is_blank c }
