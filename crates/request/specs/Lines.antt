@@ -1,5 +1,5 @@
 -- What a line asks for.
-use Rattle.std.specs.Prelude.{◌≡◌, ℕ, Bool, true, false, cond, List, [], ◌∷◌, length, Some, None, Option, Ok, Err, Result, ◌==◌, nat_lt, codes}
+use Rattle.std.specs.Prelude.{◌≡◌, ℕ, Bool, true, false, cond, ◌&&◌, List, [], ◌∷◌, length, Some, None, Option, Ok, Err, Result, ◌==◌, nat_lt, codes}
 use Rattle.std.specs.Str.{bytes_eq}
 use Rattle.std.specs.Str.Lines.{strip_carriage_return}
 use Rattle.player.specs.declared.Call.TheVariants as calls
@@ -50,6 +50,9 @@ feed = by_place (λ slot. by_place (λ connection ws. onward (λ lpdu. Ok (recor
 abbrev pub expire : Form
 expire = by_place (λ slot. by_place (λ connection. whole (plain (calls.Expire slot connection))))
 
+abbrev pub is_feed : List ℕ → Bool
+is_feed name = bytes_eq name (codes "feed")
+
 -- what the words after a call's name ask for
 abbrev pub by_name : List ℕ → Form
 by_name name ws =
@@ -58,7 +61,7 @@ by_name name ws =
     (cond (bytes_eq name (codes "pull")) (pull ws)
     (cond (bytes_eq name (codes "end")) (end ws)
     (cond (bytes_eq name (codes "next")) (next ws)
-    (cond (bytes_eq name (codes "feed")) (feed ws)
+    (cond (is_feed name) (feed ws)
     (cond (bytes_eq name (codes "expire")) (expire ws)
     (Err Name)))))))
 
@@ -72,15 +75,23 @@ abbrev pub by_words : List (List ℕ) → Result (Option Asked) Reason
 by_words [] = Ok None
 by_words (name ∷ ws) = cond (comment name) (Ok None) (result_map Some (by_name name ws))
 
--- what a line of at most 200,000 bytes asks for; a carriage return at its end is dropped
-abbrev pub asks : List ℕ → Result (Option Asked) Reason
-asks line = cond (nat_lt 200000 (length line)) (Err Long) (by_words (words (strip_carriage_return line)))
+-- a carriage return at the end of a line is dropped
+abbrev pub words_of : List ℕ → List (List ℕ)
+words_of line = words (strip_carriage_return line)
 
--- whether an answer is the one that is meant, which is open where memory ran out
-abbrev pub Answers : {X Y : Type 0} → Result X Reason → (Y → X) → Result Y LineError → Type 0
-Answers meant f (Ok y) = meant ≡ Ok (f y)
-Answers meant f (Err (Bad why)) = meant ≡ Err why
-Answers meant f (Err Memory) = Unit {0}
+-- what a line of at most 200,000 bytes asks for
+abbrev pub asks : List ℕ → Result (Option Asked) Reason
+asks line = cond (nat_lt 200000 (length line)) (Err Long) (by_words (words_of line))
+
+abbrev pub feeds : List (List ℕ) → Bool
+feeds [] = false
+feeds (name ∷ ws) = is_feed name
+
+-- whether an answer is the one that is meant, which is open where memory ran out, as it may do
+abbrev pub Answers : {X Y : Type 0} → Bool → Result X Reason → (Y → X) → Result Y LineError → Type 0
+Answers may meant f (Ok y) = meant ≡ Ok (f y)
+Answers may meant f (Err (Bad why)) = meant ≡ Err why
+Answers may meant f (Err Memory) = may ≡ true
 
 -- whether memory ran out
 abbrev pub ran_out : Result (Option Request) LineError → Bool
@@ -92,6 +103,6 @@ abbrev answer : Result (Option Asked) Reason → Result (Option Asked) LineError
 answer (Ok a) = Ok a
 answer (Err why) = Err (Bad why)
 
--- what is answered
+-- what is answered: a feed alone may run out of memory
 abbrev pub answered : Bool → List ℕ → Result (Option Asked) LineError
-answered no_memory line = cond no_memory (Err Memory) (answer (asks line))
+answered no_memory line = cond (no_memory && feeds (words_of line)) (Err Memory) (answer (asks line))

@@ -1,5 +1,5 @@
 // The words of a line, and what each is read as.
-ghost use Rattle.std.specs.Prelude.{◌≡◌, ◌∷◌, [], not, length, take_while, MatchOption, OnOk, Ok};
+ghost use Rattle.std.specs.Prelude.{◌≡◌, ◌∷◌, [], true, not, length, take_while, MatchOption, OnOk, Ok};
 ghost use Rattle.std.specs.Char.{is_ascii_digit};
 ghost use Rattle.std.specs.List.{list_all};
 ghost use Rattle.request.specs.Words.{result_map, is_blank, words, others, first, first_room, number as number_of, place as place_of, byte as byte_of, bytes as bytes_of, ended};
@@ -129,7 +129,7 @@ impl<'a> Words<'a> {
     }
 
     pub fn bytes(&mut self, heap: Global) -> Result<Vec<u8>, LineError>
-        ensures { Answers (bytes_of (words self.old.left.now)) (λ v. v.items) result }
+        ensures { Answers true (bytes_of (words self.old.left.now)) (λ v. v.items) result }
     {
         let mut bytes = Vec::new(heap);
         while let Some(word) = self.pop() {
