@@ -10,8 +10,6 @@ use std::alloc::AllocError;
 use std::io;
 use std::io::{BufReader, Read};
 
-mod request;
-
 // Plays the calls of an input to a new player over a resource, and then tells the sessions that are open and the turns that are out.
 pub fn play<R: Resource + Drop, I: Read + Drop>(
     rt: &(impl Print + AllocGlobal),

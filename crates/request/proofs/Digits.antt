@@ -1,18 +1,15 @@
--- Words of digits: the numbers that they write, and that those of decimal digits are text.
-use Rattle.std.proofs.Common.{◌≡◌, ◌↔◌, ℕ, ◌<◌, ◌^◌, List, get_or, length, Result, true, is_ok, sym, ap, ◌∙◌, arith, rules}
+-- Words of decimal digits: the numbers that they write, and that they are text.
+use Rattle.std.proofs.Common.{◌≡◌, ℕ, ◌<◌, ◌^◌, List, get_or, length, Result, true, arith, rules}
 use Rattle.std.proofs.lemmas.Bool.Decides.{nat_tests}
 use Rattle.std.proofs.lemmas.List.Sums.{AllPass-from_list_all}
 use Rattle.std.proofs.lemmas.Str.{IsUtf8-from_ascii}
 use Rattle.std.proofs.lemmas.Str.Ascii.{IsAscii-from_all}
 use Rattle.std.proofs.lemmas.Str.Parse.{IsNumeralModel, numerals_by_value, parse_digits}
 use Rattle.std.specs.Char.{is_ascii_digit}
-use Rattle.std.specs.List.{AllPass, list_all}
+use Rattle.std.specs.List.{list_all}
 use Rattle.std.specs.Result.{OkIff}
 use Rattle.std.specs.Str.{IsUtf8}
 use Rattle.std.specs.Str.Parse.{digits_value, ParsesUnsigned}
-use Rattle.hex.specs.Hex.{decode_sized, is_hex_digit}
-use Rattle.hex.specs.declared.error.FromHexError.{FromHexError}
-use Rattle.hex.proofs.HexLemmas.{IsOk-decode_sized}
 
 below : (c : ℕ) → is_ascii_digit c ≡ true → c < 128
 below c h = grind (arith, nat_tests)
@@ -26,9 +23,3 @@ numerals = numerals_by_value _ (search rules)
 -- of sixteen bits
 pub decimal : {E : Type 0} (w : List ℕ) (r : Result ℕ E) → ParsesUnsigned 16 10 w r → list_all is_ascii_digit w ≡ true → OkIff r ((0 < length w) × (digits_value 10 w < 2 ^ 16)) (digits_value 10 w)
 decimal w r h d = parse_digits numerals 16 w r h d
-
-pub hexadecimal : {E : Type 0} (w : List ℕ) (r : Result (List ℕ) FromHexError) (q : Result (List ℕ) E) → r ≡ decode_sized w 1 → is_ok q ≡ is_ok r → (is_ok q ≡ true) ↔ ((length w ≡ 2) × AllPass is_hex_digit w)
-hexadecimal w r q e v =
-    let sized = IsOk-decode_sized w 1 in
-    let same : is_ok q ≡ is_ok (decode_sized w 1) = v ∙ ap is_ok e in
-    (λ h. sized.0 (sym same ∙ h), λ p. same ∙ sized.1 p)

@@ -1,0 +1,4 @@
+pub mod Calls
+pub mod Lines
+pub mod Names
+pub mod Words
