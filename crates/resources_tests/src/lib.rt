@@ -180,26 +180,29 @@ mod tests {
     fn all_under_a_quota(rt: HostRuntime) {
         let mut r = standard(2, &THREE);
         assert_eq!(rt; r.find(0x00020050), Some(APPLICATION_INFORMATION));
-        assert_eq!(rt; u8::from(r.ready(0, DATE_TIME)), 0);
-        assert_eq!(rt; u8::from(r.ready(0, 0x00240042)), 0xF1, "not listed");
-        assert_eq!(rt; u8::from(r.ready(4, DATE_TIME)), 0xF1, "no such slot");
-        r.opened(0, RESOURCE_MANAGER, 0);
-        r.opened(0, RESOURCE_MANAGER, 17);
-        r.opened(4, RESOURCE_MANAGER, 1);
-        assert_eq!(rt; r.count(0), 0);
+        // Listed, not listed, and in a slot that there is not.
+        let ready = [
+            u8::from(r.ready(0, DATE_TIME)),
+            u8::from(r.ready(0, 0x00240042)),
+            u8::from(r.ready(4, DATE_TIME)),
+        ];
+        assert!(rt; ready == [0, 0xF1, 0xF1]);
+        for (slot, number) in [(0, 0), (0, 17), (4, 1)] {
+            r.opened(slot, RESOURCE_MANAGER, number);
+        }
+        let none = r.count(0);
         r.opened(0, RESOURCE_MANAGER, 1);
         r.opened(0, RESOURCE_MANAGER, 1);
-        assert_eq!(rt; r.count(0), 1);
+        let one = r.count(0);
         r.opened(0, DATE_TIME, 2);
-        assert_eq!(rt; r.count(0), 2);
-        assert_eq!(rt;
-            u8::from(r.ready(0, APPLICATION_INFORMATION)),
-            0xF3,
-            "as many as the quota"
-        );
-        assert_eq!(rt; u8::from(r.ready(1, APPLICATION_INFORMATION)), 0);
         r.closed(0, RESOURCE_MANAGER, 2);
-        assert_eq!(rt; r.count(0), 2);
+        assert!(rt; [none, one, r.count(0)] == [0, 1, 2]);
+        // As many as the quota, in slot 0 alone, and none when the module is gone.
+        let full = [
+            u8::from(r.ready(0, APPLICATION_INFORMATION)),
+            u8::from(r.ready(1, APPLICATION_INFORMATION)),
+        ];
+        assert!(rt; full == [0xF3, 0]);
         r.gone(0);
         assert_eq!(rt; r.count(0), 0);
         assert_eq!(rt; u8::from(r.ready(0, APPLICATION_INFORMATION)), 0);
