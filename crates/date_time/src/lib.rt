@@ -1,7 +1,6 @@
 // Date-Time (00240041): tells a module the time on request.
 #![tactic(auto)]
 
-ghost use Rattle.std.specs.Prelude.{◌≡◌};
 ghost use Rattle.resource.specs.Duties.{New};
 ghost use Rattle.date_time.specs.Kinds.{date_time_nature, date_time_meaning};
 

@@ -1,6 +1,5 @@
 // Two resources: the first of them that has a match serves.
-ghost use Rattle.std.specs.Prelude.{◌≡◌, ◌++◌, if◌then◌else◌};
-ghost use Rattle.identifier.specs.Identifiers.{found};
+ghost use Rattle.std.specs.Prelude.{◌≡◌, if◌then◌else◌};
 ghost use Rattle.resource.specs.Duties.{finds, New};
 ghost use Rattle.resource.specs.Pair.{ours};
 ghost use Rattle.resource.specs.PairLaws.{pair_lawful};

@@ -1,7 +1,6 @@
 // A private resource (C0100001): an object of one tag is answered with one as long as a resource may send.
 #![tactic(auto)]
 
-ghost use Rattle.std.specs.Prelude.{◌≡◌};
 ghost use Rattle.resource.specs.Duties.{New};
 ghost use Rattle.longest.specs.Kinds.{longest_nature, longest_meaning};
 
