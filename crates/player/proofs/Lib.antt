@@ -1,3 +1,4 @@
 pub mod Marks
 pub mod Turns
 pub mod Lists
+pub mod Apart

@@ -1,5 +1,5 @@
 -- One call more at the end of a list.
-use Rattle.std.proofs.Common.{◌≡◌, ℕ, ◌+◌, ◌<◌, ◌≤◌, Bool, true, false, not, ltb, List, [], ◌∷◌, ◌++◌, map, length, get_or, take, drop, set, Some, Err, Result, sym, refl, ap, ◌∙◌, subst, append_assoc, arith}
+use Rattle.std.proofs.Common.{◌≡◌, ℕ, ◌+◌, ◌<◌, ◌≤◌, Bool, true, false, not, ltb, List, [], ◌∷◌, ◌++◌, map, length, get_or, take, drop, set, Err, Result, sym, refl, ap, ◌∙◌, subst, append_assoc, arith}
 use Rattle.std.proofs.lemmas.Bool.{ltb-false}
 use Rattle.std.proofs.lemmas.List.{map-append, append-nil, take_more, take_more_set, drop_more, take_all, drop-set-lt, drop-drop}
 use Rattle.refusal.specs.declared.Refusal.{Refusal}
@@ -13,9 +13,8 @@ use Rattle.protocol.specs.Laws.{Stands}
 use Rattle.protocol.proofs.Stands.{step_same, run_last}
 use Rattle.host.specs.declared.turn.host.Host.{Host}
 use Rattle.host.specs.View.{view}
-use Rattle.player.specs.declared.Answer as code
 use Rattle.player.specs.declared.Entry.{Entry}
-use Rattle.player.specs.Play.{with_turn, told_by, reply, Played}
+use Rattle.player.specs.Play.{with_turn, told_by, reply}
 use Rattle.player.specs.Plays.{call_in, entry_left, entries_left, PlayedAll}
 
 -- there is no turn of a slot that there is not
@@ -46,12 +45,9 @@ module _ {S : Type 0} (M : Meaning S) where
     entries_last [] e h = refl
     entries_last (d ∷ es) e h = ap (λ l. entry_left (reply M made (call_in d) h) d ∷ l) (entries_last es e (step M made (call_in d) h))
 
-  -- no call, one, and one more
+  -- no call, and one more
   pub none_played : (h : Host S) → PlayedAll M [] [] h h
   none_played h = record { answers = refl; after = λ s b. refl; made = refl; stands = λ calls k. subst (λ l. Stands M (M.made h.resource) l (view M h)) (sym (append-nil calls)) k }
-
-  pub one_played : (e : Entry) (r : Result code.Answer Refusal) (out : List ℕ) (h h' : Host S) → Played M (call_in e) r e.out out h h' → PlayedAll M (e ∷ []) (record e { out = out; answer = Some r } ∷ []) h h'
-  one_played e r out h h' k = record { answers = λ i. record e { out = k.bytes i; answer = Some (k.answer i) } ∷ []; after = k.after; made = k.made; stands = k.stands }
 
   pub more_played : (es es' : List Entry) (e e' : Entry) (h h' h2 : Host S) → PlayedAll M es es' h h' → PlayedAll M (e ∷ []) (e' ∷ []) h' h2 → PlayedAll M (es ++ e ∷ []) (es' ++ e' ∷ []) h h2
   more_played es es' e e' h h' h2 p q = record { answers = all; after = after; made = q.made ∙ p.made; stands = stands }

@@ -5,7 +5,7 @@ ghost use Rattle.protocol.specs.Runs.{run};
 ghost use Rattle.protocol.specs.Laws.{Stands};
 ghost use Rattle.host.specs.View.{Begun, view};
 ghost use Rattle.player.specs.Play.{call_of, Tied, Played};
-ghost use Rattle.player.specs.Plays.{call_in, entries_left, started, PlayedAll};
+ghost use Rattle.player.specs.Plays.{call_in, entries_left, started, TellsApart, PlayedAll};
 
 use crate::desk::Desk;
 use crate::hand::Hand;
@@ -50,6 +50,7 @@ impl<R: Resource> Player<R> {
     // Plays a list of calls on a new host over a resource.
     pub fn play(resource: R, entries: &mut [Entry<'_>]) -> Player<R>
         ensures answers { entries.new ≡ entries_left R.Resource.meaning (R.Resource.meaning.made resource) entries.old (started R.Resource.meaning resource) }
+        ensures apart { TellsApart R.Resource.meaning resource entries.old entries.new }
         ensures after { (s : ℕ) → s < 4 → view R.Resource.meaning result.desk.host s ≡ run R.Resource.meaning (R.Resource.meaning.made resource) (map call_in entries.old) (started R.Resource.meaning resource) s }
         ensures made { R.Resource.meaning.made result.desk.host.resource ≡ R.Resource.meaning.made resource }
         ensures stands { New R.Resource.meaning resource → Stands R.Resource.meaning (R.Resource.meaning.made resource) (map call_in entries.old) (view R.Resource.meaning result.desk.host) }

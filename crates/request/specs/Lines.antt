@@ -1,5 +1,5 @@
 -- What a line asks for.
-use Rattle.std.specs.Prelude.{◌≡◌, ℕ, Bool, true, false, cond, ◌&&◌, List, [], ◌∷◌, length, Some, None, Option, Ok, Err, Result, ◌==◌, nat_lt, codes}
+use Rattle.std.specs.Prelude.{◌≡◌, ℕ, Bool, true, false, cond, ◌&&◌, List, [], ◌∷◌, length, Some, None, Option, Ok, Err, Result, is_ok, ◌==◌, nat_le, nat_lt, codes}
 use Rattle.std.specs.Str.{bytes_eq}
 use Rattle.std.specs.Str.Lines.{strip_carriage_return}
 use Rattle.player.specs.declared.Call.TheVariants as calls
@@ -76,18 +76,26 @@ by_words [] = Ok None
 by_words (name ∷ ws) = cond (comment name) (Ok None) (result_map Some (by_name name ws))
 
 -- a carriage return at the end of a line is dropped
-abbrev pub words_of : List ℕ → List (List ℕ)
-words_of line = words (strip_carriage_return line)
+abbrev pub line_words : List ℕ → List (List ℕ)
+line_words line = words (strip_carriage_return line)
 
 -- what a line of at most 200,000 bytes asks for
 abbrev pub asks : List ℕ → Result (Option Asked) Reason
-asks line = cond (nat_lt 200000 (length line)) (Err Long) (by_words (words_of line))
+asks line = cond (nat_lt 200000 (length line)) (Err Long) (by_words (line_words line))
 
-abbrev pub feeds : List (List ℕ) → Bool
+-- the words after a feed's name tell a slot and a connection, so that its bytes are read
+abbrev pub led : List (List ℕ) → Bool
+led ws = is_ok (first place ws) && is_ok (first place (others ws))
+
+abbrev feeds : List (List ℕ) → Bool
 feeds [] = false
-feeds (name ∷ ws) = is_feed name
+feeds (name ∷ ws) = is_feed name && led ws
 
--- whether an answer is the one that is meant, which is open where memory ran out, as it may do
+-- whether a line puts bytes into memory
+abbrev pub fills : List ℕ → Bool
+fills line = nat_le (length line) 200000 && feeds (line_words line)
+
+-- the answer is the one that is meant, unless memory may run out and did
 abbrev pub Answers : {X Y : Type 0} → Bool → Result X Reason → (Y → X) → Result Y LineError → Type 0
 Answers may meant f (Ok y) = meant ≡ Ok (f y)
 Answers may meant f (Err (Bad why)) = meant ≡ Err why
@@ -103,6 +111,6 @@ abbrev answer : Result (Option Asked) Reason → Result (Option Asked) LineError
 answer (Ok a) = Ok a
 answer (Err why) = Err (Bad why)
 
--- what is answered: a feed alone may run out of memory
+-- what is answered, whether memory ran out or not
 abbrev pub answered : Bool → List ℕ → Result (Option Asked) LineError
-answered no_memory line = cond (no_memory && feeds (words_of line)) (Err Memory) (answer (asks line))
+answered no_memory line = cond (no_memory && fills line) (Err Memory) (answer (asks line))

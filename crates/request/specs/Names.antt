@@ -9,18 +9,18 @@ use Rattle.request.specs.declared.Request.TheVariants.{Clock, Plug, Pull, End, N
 abbrev of_slot : List ℕ → ℕ → List ℕ
 of_slot name slot = name ++ codes " " ++ decimal slot
 
-abbrev of_line : List ℕ → ℕ → ℕ → List ℕ
-of_line name slot connection = of_slot name slot ++ codes " " ++ decimal connection
+abbrev of_connection : List ℕ → ℕ → ℕ → List ℕ
+of_connection name slot connection = of_slot name slot ++ codes " " ++ decimal connection
 
 -- a call's name, and the slot and the connection that it names
 abbrev pub request : Request → List ℕ
 request (Clock time) = codes "clock"
 request (Plug slot size) = of_slot (codes "plug") slot
 request (Pull slot) = of_slot (codes "pull") slot
-request (End slot connection) = of_line (codes "end") slot connection
-request (Next slot connection room) = of_line (codes "next") slot connection
-request (Feed slot connection lpdu) = of_line (codes "feed") slot connection
-request (Expire slot connection) = of_line (codes "expire") slot connection
+request (End slot connection) = of_connection (codes "end") slot connection
+request (Next slot connection room) = of_connection (codes "next") slot connection
+request (Feed slot connection lpdu) = of_connection (codes "feed") slot connection
+request (Expire slot connection) = of_connection (codes "expire") slot connection
 
 -- why a line is no call
 abbrev pub reason : Reason → List ℕ

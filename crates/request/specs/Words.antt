@@ -27,7 +27,7 @@ onward f (Err why) = Err why
 abbrev pub within : ℕ → ℕ → Result ℕ Reason
 within limit n = cond (nat_lt n limit) (Ok n) (Err Large)
 
--- a size or a room: decimal digits; no word is empty
+-- a size or a room: decimal digits; an empty word, which a line has none of, counts as too large
 abbrev pub number : List ℕ → Result ℕ Reason
 number word =
     cond (list_all is_ascii_digit word)

@@ -1,13 +1,13 @@
 // The calls of a console: what a line asks for, or what is wrong with it.
 #![tactic(auto)]
 
-ghost use Rattle.std.specs.Prelude.{◌≡◌, true, Some};
+ghost use Rattle.std.specs.Prelude.{◌≡◌, ◌&&◌, Some};
 ghost use Rattle.std.specs.Option.{option_map};
 ghost use Rattle.std.specs.Str.{bytes_eq};
 ghost use Rattle.std.specs.Str.Lines.{strip_carriage_return};
 ghost use Rattle.request.specs.Calls.{call as call_of, lpdu as lpdu_of, room as room_of, asked};
 ghost use Rattle.request.specs.Names.{reason, request as request_text};
-ghost use Rattle.request.specs.Lines.{Answers, ran_out, answered, clock as clock_of, plug as plug_of, pull as pull_of, end as end_of, next as next_of, feed as feed_of, expire as expire_of, by_name, is_feed};
+ghost use Rattle.request.specs.Lines.{Answers, ran_out, answered, clock as clock_of, plug as plug_of, pull as pull_of, end as end_of, next as next_of, feed as feed_of, expire as expire_of, by_name, is_feed, led};
 ghost use Rattle.request.specs.Words.{result_map, words as words_of};
 ghost use Rattle.request.specs.declared.LineError.TheVariants.{Bad, Memory};
 
@@ -87,7 +87,7 @@ impl fmt::Display for Request {
 }
 
 // Why a line is no call.
-#[derive(Clone, Copy, PartialEq, Eq, Debug)]
+#[derive(Clone, Copy)]
 pub enum Reason {
     Long,
     Name,
@@ -117,7 +117,7 @@ impl fmt::Display for Reason {
 }
 
 // Why a line is not read: it is no call, or there is no memory for its bytes.
-#[derive(Clone, Copy, PartialEq, Eq, Debug)]
+#[derive(Clone, Copy)]
 pub enum LineError {
     Bad(Reason),
     Memory,
@@ -190,7 +190,7 @@ fn next(mut words: Words) -> Result<Request, Reason>
 }
 
 fn feed(mut words: Words, heap: Global) -> Result<Request, LineError>
-    ensures { Answers true (feed_of (words_of words.entry.left.now)) asked result }
+    ensures { Answers (led (words_of words.entry.left.now)) (feed_of (words_of words.entry.left.now)) asked result }
 {
     let slot = words.place()?;
     let connection = words.place()?;
@@ -215,7 +215,7 @@ fn is(word: &[u8], name: &str) -> bool
 
 // The call of this name.
 fn read(name: &[u8], words: Words, heap: Global) -> Result<Request, LineError>
-    ensures { Answers (is_feed name.now) (by_name name.now (words_of words.entry.left.now)) asked result }
+    ensures { Answers (is_feed name.now && led (words_of words.entry.left.now)) (by_name name.now (words_of words.entry.left.now)) asked result }
 {
     Ok(if is(name, "clock") {
         clock(words)?

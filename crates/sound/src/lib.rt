@@ -17,7 +17,7 @@ use resource::Resource;
 use sending::Sent;
 use slot::Place;
 
-// No slot can exist with a session on a connection that is not Active, one number in two rows, or an owed command where the turn is out.
+// No slot can exist with a session on a connection that is not Active, or an owed command where the turn is out; a number has one row, by its place.
 #[derive(Drop)]
 pub struct Slot {
     kept: Record,
