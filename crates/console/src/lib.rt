@@ -7,8 +7,8 @@ use player::player::Player;
 use request::{LONGEST, LineError, Request, parse};
 use resource::Resource;
 use std::alloc::AllocError;
-use std::io;
 use std::io::{BufReader, Read};
+use std::{env, io};
 
 // Plays the calls of an input to a new player over a resource, and then tells the sessions that are open and the turns that are out.
 pub fn play<R: Resource + Drop, I: Read + Drop>(
@@ -130,21 +130,27 @@ impl<R: Resource> Console<R> {
     }
 }
 
-// The forms of a call.
+// Whether the command line asks for help.
+pub fn asks_help(rt: &HostRuntime) -> io::Result<bool> {
+    Ok(env::args(rt)?.skip(1).any(|arg| arg.as_str() == "--help"))
+}
+
+// The forms of a call, and what comes at the end.
+const FORMS: [&str; 9] = [
+    "  clock HH HH HH HH HH            the time: day number (two bytes), hour, minute and second",
+    "  plug SLOT SIZE                  a module is in a slot, 0 to 3, with this agreed size",
+    "  pull SLOT                       the module of a slot is gone",
+    "  end SLOT CONNECTION             a connection, 1 or 2, is to be deleted",
+    "  next SLOT CONNECTION [ROOM]     writes the command that is due into ROOM bytes, 152 if not told",
+    "  feed SLOT CONNECTION HH HH ..   an LPDU of the module comes in",
+    "  expire SLOT CONNECTION          no answer of the module comes in",
+    "  # ..                            a comment; blank lines are passed over too",
+    "At the end of the input it tells the open sessions, and the turns that are out.",
+];
+
 pub fn help(rt: &impl Print) -> io::Result<()> {
-    println!(rt;
-        "  clock HH HH HH HH HH            the time: day number (two bytes), hour, minute and second"
-    )?;
-    println!(rt;
-        "  plug SLOT SIZE                  a module is in a slot, 0 to 3, with this agreed size"
-    )?;
-    println!(rt; "  pull SLOT                       the module of a slot is gone")?;
-    println!(rt; "  end SLOT CONNECTION             a connection, 1 or 2, is to be deleted")?;
-    println!(rt;
-        "  next SLOT CONNECTION [ROOM]     writes the command that is due into ROOM bytes, 152 if not told"
-    )?;
-    println!(rt; "  feed SLOT CONNECTION HH HH ..   an LPDU of the module comes in")?;
-    println!(rt; "  expire SLOT CONNECTION          no answer of the module comes in")?;
-    println!(rt; "  # ..                            a comment; blank lines are passed over too")?;
-    println!(rt; "At the end of the input it tells the open sessions, and the turns that are out.")
+    for line in FORMS {
+        println!(rt; "{line}")?;
+    }
+    Ok(())
 }

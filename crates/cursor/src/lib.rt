@@ -24,7 +24,7 @@ pub enum Size {
 }
 
 impl Size {
-    pub fn admits(self, n: usize) -> bool
+    fn admits(self, n: usize) -> bool
         ensures { result ≡ admitted self n }
     {
         match self {

@@ -16,7 +16,7 @@ use Rattle.protocol.specs.Runs.{Call, at, clock, tell, time_fits, answer, step, 
 use Rattle.protocol.proofs.Stands.{stands, stands_step}
 use Rattle.record.specs.Records.{slot_of}
 use Rattle.slot.specs.Stand.{stand_at, Did}
-use Rattle.sound.specs.declared.Slot.{Slot}
+use Rattle.host.specs.declared.sound.Slot.{Slot}
 use Rattle.host.specs.declared.turn.host.Host.{Host}
 use Rattle.host.specs.View.{seen, slot_at, view, Called, Begun}
 

@@ -1,2 +1,3 @@
 pub mod Called
 pub mod Handed
+pub mod Stays

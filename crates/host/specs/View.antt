@@ -9,7 +9,7 @@ use Rattle.protocol.specs.Calls.{Stand, Answer, done, turn_back, wrote}
 use Rattle.protocol.specs.Runs.{Call, answer, step}
 use Rattle.protocol.specs.Laws.{Stands}
 use Rattle.record.specs.Records.{slot_of}
-use Rattle.sound.specs.declared.Slot.{Slot}
+use Rattle.host.specs.declared.sound.Slot.{Slot}
 use Rattle.host.specs.declared.turn.Turn.{Turn}
 use Rattle.host.specs.declared.turn.Next.{Next}
 use Rattle.host.specs.declared.turn.Fed.{Fed}

@@ -4,7 +4,7 @@
 use layers::pair::Pair;
 use longest::Longest;
 use standard::{THREE, three};
-use std::{env, io};
+use std::io;
 
 fn help(rt: &HostRuntime) -> io::Result<()> {
     println!(rt;
@@ -14,7 +14,7 @@ fn help(rt: &HostRuntime) -> io::Result<()> {
 }
 
 fn main(rt: HostRuntime) -> io::Result<()> {
-    if env::args(&rt)?.skip(1).any(|arg| arg.as_str() == "--help") {
+    if console::asks_help(&rt)? {
         help(&rt)
     } else {
         let resources = Pair::new(three(&THREE), Longest::resource());

@@ -17,7 +17,7 @@ use Rattle.protocol.specs.Calls.{Act, next, feed, expire, expiring, Answer, Stan
 use Rattle.protocol.specs.Runs.{Call, clock, at, answer, step, answer_of, stand_of, time_fits, tell}
 use Rattle.protocol.proofs.Slots.{fresh_sound}
 use Rattle.protocol.proofs.Stands.{stands_step}
-use Rattle.sound.specs.declared.Slot.{Slot}
+use Rattle.host.specs.declared.sound.Slot.{Slot}
 use Rattle.slot.specs.Stand.{plainly}
 use Rattle.host.specs.declared.turn.Turn.{Turn}
 use Rattle.host.specs.declared.turn.host.Host.{Host}

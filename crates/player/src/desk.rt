@@ -13,14 +13,14 @@ use host::turn::{Fed, Next, Turn};
 use refusal::Refusal;
 use resource::Resource;
 
-pub struct Desk<R> {
-    pub host: Host<R>,
-    pub hand: Hand,
+pub(crate) struct Desk<R> {
+    pub(crate) host: Host<R>,
+    pub(crate) hand: Hand,
 }
 
 impl<R: Resource + Drop> Desk<R> {
     // The turns still out expire, and the host is let go.
-    pub fn finish(self) {
+    pub(crate) fn finish(self) {
         let Desk { mut host, hand } = self;
         hand.expire_all(&mut host);
     }
@@ -28,7 +28,7 @@ impl<R: Resource + Drop> Desk<R> {
 
 impl<R: Resource> Desk<R> {
     // Any call.
-    pub fn call(&mut self, call: Call, lpdu: &[u8], out: &mut [u8]) -> Result<Answer, Refusal>
+    pub(crate) fn call(&mut self, call: Call, lpdu: &[u8], out: &mut [u8]) -> Result<Answer, Refusal>
         requires { Tied self.old }
         ensures played { Played R.Resource.meaning (call_of call lpdu.now (length out.old)) result out.old out.new self.old.host self.new.host }
         ensures tied { Tied self.new }

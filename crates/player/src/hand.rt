@@ -9,7 +9,7 @@ use refusal::Refusal;
 use resource::Resource;
 use std::array;
 
-pub struct Hand {
+pub(crate) struct Hand {
     turns: [Option<Turn>; 8],
 }
 
@@ -25,7 +25,7 @@ fn place(slot: u8, connection: u8) -> usize
 }
 
 impl Hand {
-    pub fn empty() -> Hand
+    pub(crate) fn empty() -> Hand
         ensures { result.turns ≡ replicate 8 None }
     {
         Hand {
@@ -34,7 +34,7 @@ impl Hand {
     }
 
     // The turn of a slot and a connection.
-    pub fn take(&mut self, slot: u8, connection: u8) -> Result<Turn, Refusal>
+    pub(crate) fn take(&mut self, slot: u8, connection: u8) -> Result<Turn, Refusal>
         ensures { taken slot connection self.old.turns ≡ (result, self.new.turns) }
     {
         let slot = SlotNumber::new(slot).ok_or(Refusal::Slot)?;
@@ -45,7 +45,7 @@ impl Hand {
     }
 
     // Takes a turn in, and hands back the one that was in its place.
-    pub fn put(&mut self, turn: Turn) -> Option<Turn>
+    pub(crate) fn put(&mut self, turn: Turn) -> Option<Turn>
         ensures put { putting turn self.old.turns ≡ (result, self.new.turns) }
         ensures inside { place_of turn.slot.number turn.connection.number < length self.old.turns }
     {
@@ -53,7 +53,7 @@ impl Hand {
     }
 
     // Every turn that is held expires.
-    pub fn expire_all<R: Resource>(self, host: &mut Host<R>) {
+    pub(crate) fn expire_all<R: Resource>(self, host: &mut Host<R>) {
         let Hand { turns } = self;
         // An array's iterator would let its items go, and a turn cannot be let go.
         let [a, b, c, d, e, f, g, h] = turns;

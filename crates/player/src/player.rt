@@ -62,7 +62,7 @@ impl<R: Resource> Player<R> {
 
     // Plays a list of calls.
     #[tactic(auto, using(crate::proofs::Lists::played_to_none, crate::proofs::Lists::played_to_all))]
-    pub fn play_on(&mut self, entries: &mut [Entry<'_>])
+    fn play_on(&mut self, entries: &mut [Entry<'_>])
         ensures { PlayedAll R.Resource.meaning entries.old entries.new self.old.desk.host self.new.desk.host }
     {
         for entry in entries.iter_mut() {

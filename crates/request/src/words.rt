@@ -74,12 +74,12 @@ fn letters(text: &[u8]) -> usize
 
 // The words of a line that are still to be read, with blanks between them.
 #[derive(Drop)]
-pub struct Words<'a> {
-    pub left: &'a [u8],
+pub(crate) struct Words<'a> {
+    pub(crate) left: &'a [u8],
 }
 
 impl<'a> Words<'a> {
-    pub fn pop(&mut self) -> Option<&'a [u8]>
+    pub(crate) fn pop(&mut self) -> Option<&'a [u8]>
         ensures { MatchOption result ((words self.old.left.now ≡ []) × (words self.new.left.now ≡ [])) (λ w. words self.old.left.now ≡ w.now ∷ words self.new.left.now) }
     {
         let (_, begun) = self.left.split_at(blanks(self.left));
@@ -96,7 +96,7 @@ impl<'a> Words<'a> {
     }
 
     // A size.
-    pub fn number(&mut self) -> Result<u16, Reason>
+    pub(crate) fn number(&mut self) -> Result<u16, Reason>
         ensures read { result ≡ first number_of (words self.old.left.now) }
         ensures left { OnOk result (words self.new.left.now ≡ others (words self.old.left.now)) }
     {
@@ -104,21 +104,21 @@ impl<'a> Words<'a> {
     }
 
     // A slot or a connection.
-    pub fn place(&mut self) -> Result<u8, Reason>
+    pub(crate) fn place(&mut self) -> Result<u8, Reason>
         ensures read { result ≡ first place_of (words self.old.left.now) }
         ensures left { OnOk result (words self.new.left.now ≡ others (words self.old.left.now)) }
     {
         place(self.word()?)
     }
 
-    pub fn byte(&mut self) -> Result<u8, Reason>
+    pub(crate) fn byte(&mut self) -> Result<u8, Reason>
         ensures read { result ≡ first byte_of (words self.old.left.now) }
         ensures left { OnOk result (words self.new.left.now ≡ others (words self.old.left.now)) }
     {
         byte(self.word()?)
     }
 
-    pub fn room(&mut self) -> Result<u16, Reason>
+    pub(crate) fn room(&mut self) -> Result<u16, Reason>
         ensures read { result ≡ first_room (words self.old.left.now) }
         ensures left { OnOk result (words self.new.left.now ≡ others (words self.old.left.now)) }
     {
@@ -128,7 +128,7 @@ impl<'a> Words<'a> {
         }
     }
 
-    pub fn bytes(&mut self, heap: Global) -> Result<Vec<u8>, LineError>
+    pub(crate) fn bytes(&mut self, heap: Global) -> Result<Vec<u8>, LineError>
         ensures { Answers true (bytes_of (words self.old.left.now)) (λ v. v.items) result }
     {
         let mut bytes = Vec::new(heap);
@@ -138,7 +138,7 @@ impl<'a> Words<'a> {
         Ok(bytes)
     }
 
-    pub fn finish(&mut self) -> Result<(), Reason>
+    pub(crate) fn finish(&mut self) -> Result<(), Reason>
         ensures { result ≡ ended (words self.old.left.now) }
     {
         match self.pop() {

@@ -2,7 +2,7 @@
 #![tactic(auto)]
 
 use standard::{THREE, three};
-use std::{env, fs, io};
+use std::{fs, io};
 
 fn help(rt: &HostRuntime) -> io::Result<()> {
     println!(rt;
@@ -24,7 +24,7 @@ fn scripts(rt: &HostRuntime) -> io::Result<()> {
 }
 
 fn main(rt: HostRuntime) -> io::Result<()> {
-    if env::args(&rt)?.skip(1).any(|arg| arg.as_str() == "--help") {
+    if console::asks_help(&rt)? {
         help(&rt)
     } else {
         scripts(&rt)

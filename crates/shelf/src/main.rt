@@ -2,7 +2,7 @@
 #![tactic(auto)]
 
 use standard::{THREE, three};
-use std::{env, io};
+use std::io;
 
 fn help(rt: &HostRuntime) -> io::Result<()> {
     println!(rt;
@@ -12,7 +12,7 @@ fn help(rt: &HostRuntime) -> io::Result<()> {
 }
 
 fn main(rt: HostRuntime) -> io::Result<()> {
-    if env::args(&rt)?.skip(1).any(|arg| arg.as_str() == "--help") {
+    if console::asks_help(&rt)? {
         help(&rt)
     } else {
         console::play(&rt, three(&THREE), rt.stdin())

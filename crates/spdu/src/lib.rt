@@ -25,7 +25,7 @@ pub const CLOSE_SESSION_REQUEST: u8 = 0x95;
 pub const CLOSE_SESSION_RESPONSE: u8 = 0x96;
 
 // A module's SPDU: it asks for a session with a resource, gives a session back, or carries an APDU in one.
-#[derive(Clone, Copy)]
+#[derive(Drop)]
 pub enum Request<B> {
     Open(u32),
     Close(u16),

@@ -37,7 +37,7 @@ pub const T_DATA_LAST: u8 = 0xA0;
 pub const T_DATA_MORE: u8 = 0xA1;
 
 // What a module's TPDU carries before its status. B is how data are held: as a part of what was read.
-#[derive(Clone, Copy)]
+#[derive(Drop)]
 pub enum Object<B> {
     Nothing,
     CreateReply,
@@ -50,14 +50,14 @@ pub enum Object<B> {
 
 // A module's TPDU: at most one object, and whether the module has data to send (DA).
 // DA is a bit of the wire that says nothing of the object, so it stays a flag.
-#[derive(Clone, Copy)]
+#[derive(Drop)]
 pub struct Response<B> {
     pub object: Object<B>,
     pub available: bool,
 }
 
 // A host's TPDU. B is how data are held: as a part of what was read, or as bytes to write.
-#[derive(Clone, Copy)]
+#[derive(Drop)]
 pub enum Command<B> {
     Create,
     Delete,

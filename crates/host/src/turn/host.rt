@@ -10,12 +10,12 @@ ghost use Rattle.record.specs.Records.{slot_of};
 ghost use Rattle.host.specs.View.{Called, Begun, slot_at, fed_of, Back, next_of, Whose, size_at, line_at, session_at};
 
 use super::{Fed, Line, Next, Turn};
+use crate::sound::Slot;
 use number::{ConnectionId, SlotNumber};
 use protocol::Row;
 use record::slots::Record;
 use refusal::Refusal;
 use resource::Resource;
-use sound::Slot;
 use std::array;
 
 #[derive(Drop)]

@@ -1,6 +1,4 @@
 // A slot: its record, which is always sound, and every call on it.
-#![tactic(auto)]
-
 ghost use Rattle.std.specs.Prelude.{◌≡◌, ◌≤◌, length, Ok, IfOk};
 ghost use Rattle.protocol.specs.Record.{fresh};
 ghost use Rattle.protocol.specs.Sound.{Sound};
@@ -26,7 +24,7 @@ pub struct Slot {
 
 impl Slot {
     // A slot of a new host.
-    pub fn new() -> Slot
+    pub(crate) fn new() -> Slot
         ensures { slot_of result.kept ≡ fresh }
     {
         Slot {
@@ -34,13 +32,13 @@ impl Slot {
         }
     }
 
-    pub fn kept(&self) -> &Record
+    pub(crate) fn kept(&self) -> &Record
         ensures { result.now ≡ self.now.kept }
     {
         &self.kept
     }
 
-    pub fn plug<R: Resource>(
+    pub(crate) fn plug<R: Resource>(
         &mut self,
         resource: &mut R,
         at: SlotNumber,
@@ -51,13 +49,13 @@ impl Slot {
         Place::new(&mut self.kept, resource, at.get()).plug(size)
     }
 
-    pub fn pull<R: Resource>(&mut self, resource: &mut R, at: SlotNumber) -> Result<(), Refusal>
+    pub(crate) fn pull<R: Resource>(&mut self, resource: &mut R, at: SlotNumber) -> Result<(), Refusal>
         ensures { Did R.Resource.meaning at.number pulls (plainly result) self.old.kept resource.old self.new.kept resource.new }
     {
         Place::new(&mut self.kept, resource, at.get()).pull()
     }
 
-    pub fn end<R: Resource>(
+    pub(crate) fn end<R: Resource>(
         &mut self,
         resource: &mut R,
         at: SlotNumber,
@@ -68,7 +66,7 @@ impl Slot {
         Place::new(&mut self.kept, resource, at.get()).end(connection)
     }
 
-    pub fn next<R: Resource>(
+    pub(crate) fn next<R: Resource>(
         &mut self,
         resource: &R,
         at: SlotNumber,
@@ -84,7 +82,7 @@ impl Slot {
     }
 
     // Whether the turn comes back for further fragments: a bool, as in crate feeding.
-    pub fn feed<R: Resource>(
+    pub(crate) fn feed<R: Resource>(
         &mut self,
         resource: &mut R,
         at: SlotNumber,
@@ -97,7 +95,7 @@ impl Slot {
         feeding::feed(&mut place, c, lpdu)
     }
 
-    pub fn expire<R: Resource>(&mut self, resource: &mut R, at: SlotNumber, c: ConnectionId)
+    pub(crate) fn expire<R: Resource>(&mut self, resource: &mut R, at: SlotNumber, c: ConnectionId)
         ensures { Did R.Resource.meaning at.number (expires c.number) (Ok done) self.old.kept resource.old self.new.kept resource.new }
     {
         Place::new(&mut self.kept, resource, at.get()).expire(c);
