@@ -16,6 +16,7 @@ use cursor::fault::TransportFault;
 use lpdu::LpduReader;
 use number::ConnectionId;
 use protocol::{Owed, State};
+use record::connection::Change;
 use record::slots::Record;
 use refusal::Refusal;
 use resource::Resource;
@@ -70,7 +71,7 @@ fn add_more<R: Resource>(
     ensures { TryAt R.Resource.meaning (λ made k st. taken R.Resource.meaning made k c.number Active (More (placed c.number span.start span.length st)) available st) result place.old place.new }
 {
     add(place.slot, c, span)?;
-    place.slot.hear(c, available);
+    place.slot.change(c, Change::Hear(available));
     Ok(())
 }
 
@@ -87,7 +88,7 @@ fn add_last<R: Resource>(
     add(place.slot, c, span)?;
     // Not inspect_err: a proof does not know what its closure leaves of the record.
     if let Err(e) = hear_session(place, c, available) {
-        place.slot.cut_data(c, held);
+        place.slot.change(c, Change::CutData(held));
         return Err(e);
     }
     Ok(())
@@ -101,7 +102,7 @@ fn take_unit<R: Resource>(place: &mut Place<'_, R>, c: ConnectionId) -> Result<(
     let available = response.available;
     match (place.slot.connection(c).state(), response.object) {
         (State::Creating, Object::CreateReply) | (State::Active, Object::Nothing) => {
-            place.slot.hear(c, available);
+            place.slot.change(c, Change::Hear(available));
             Ok(())
         }
         (State::Active, Object::Delete) => {
@@ -114,13 +115,13 @@ fn take_unit<R: Resource>(place: &mut Place<'_, R>, c: ConnectionId) -> Result<(
         }
         (State::Active, Object::Request)
             if place.slot.connection(c.other()).state() == State::Idle => {
-            place.slot.hear(c, available);
-            place.slot.owe(c, Owed::NewConnection);
+            place.slot.change(c, Change::Hear(available));
+            place.slot.change(c, Change::Owe(Owed::NewConnection));
             Ok(())
         }
         (State::Active, Object::Request) => {
-            place.slot.hear(c, available);
-            place.slot.owe(c, Owed::NoConnection);
+            place.slot.change(c, Change::Hear(available));
+            place.slot.change(c, Change::Owe(Owed::NoConnection));
             Ok(())
         }
         (State::Active, Object::More(data)) => {
@@ -153,7 +154,7 @@ fn join<R: Resource>(
     }
     // Not inspect_err: a proof does not know what its closure leaves of the record.
     if let Err(e) = take_unit(place, c) {
-        place.slot.cut(c, held);
+        place.slot.change(c, Change::Cut(held));
         return Err(e);
     }
     Ok(false)

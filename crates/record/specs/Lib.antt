@@ -1,4 +1,5 @@
 pub mod Adding
 pub mod Lines
 pub mod Views
+pub mod Changes
 pub mod Records

@@ -1,9 +1,10 @@
 // A connection of a slot.
-ghost use Rattle.std.specs.Prelude.{◌≡◌, ◌+◌, false, [], length, take, drop, nat_le};
+ghost use Rattle.std.specs.Prelude.{◌≡◌, ◌+◌, false, length, take, drop, nat_le};
 ghost use Rattle.std.specs.Option.{option_map};
-ghost use Rattle.protocol.specs.Record.{bare as stripped, sent, owing, unmarked, joining, heard};
-ghost use Rattle.record.specs.Views.{conn_of, owed_of, fragments_to, chained_to, part_of, chaining};
+ghost use Rattle.protocol.specs.Record.{bare as stripped, sent, joining, heard};
+ghost use Rattle.record.specs.Views.{conn_of, owed_of, part_of, chaining};
 ghost use Rattle.record.specs.Adding.{adding};
+ghost use Rattle.record.specs.Changes.{changed};
 
 use arrayvec::ArrayVec;
 use piece::Piece;
@@ -13,6 +14,27 @@ use protocol::{Owed, State};
 pub const FRAGMENTS: usize = 1024;
 
 pub const DATA: usize = 2048;
+
+// What becomes of a connection.
+#[derive(Clone, Copy)]
+pub enum Change {
+    // It is in this state, its turn is out or not, and it keeps nothing else.
+    Bare(State, bool),
+    // A command was written: it is in this state, nothing is owed, and its turn is out.
+    Send(State),
+    // This is owed.
+    Owe(Owed<Piece>),
+    // The mark of its turn goes.
+    Unmark,
+    // The first so many bytes of the fragments are left.
+    Cut(usize),
+    // The first so many bytes of the data are left.
+    CutData(usize),
+    // A whole unit was heard, with this DA, and the data stay.
+    Hear(bool),
+    // A whole unit was heard, with this DA, and the data are read.
+    HearAll(bool),
+}
 
 #[derive(Drop)]
 pub struct Connection {
@@ -84,6 +106,25 @@ impl Connection {
         self.chained.as_slice()
     }
 
+    #[inline]
+    pub(crate) fn change(&mut self, change: Change)
+        ensures { conn_of self.new ≡ changed change (conn_of self.old) }
+    {
+        match change {
+            Change::Bare(state, out) => self.bare(state, out),
+            Change::Send(state) => self.send(state),
+            Change::Owe(owed) => self.owed = Some(owed),
+            Change::Unmark => self.out = false,
+            Change::Cut(n) => self.fragments.truncate(n),
+            Change::CutData(n) => self.chained.truncate(n),
+            Change::Hear(available) => self.hear(available),
+            Change::HearAll(available) => {
+                self.hear(available);
+                self.chained.clear();
+            }
+        }
+    }
+
     // It loses all but the mark of its turn.
     pub(crate) fn bare(&mut self, state: State, out: bool)
         ensures { conn_of self.new ≡ stripped state out }
@@ -96,8 +137,7 @@ impl Connection {
         self.chained.clear();
     }
 
-    // A command was written, and the turn is out.
-    pub(crate) fn send(&mut self, state: State)
+    fn send(&mut self, state: State)
         ensures { conn_of self.new ≡ sent state (conn_of self.old) }
     {
         self.state = state;
@@ -105,17 +145,13 @@ impl Connection {
         self.owed = None;
     }
 
-    pub(crate) fn owe(&mut self, owed: Owed<Piece>)
-        ensures { conn_of self.new ≡ owing (owed_of owed) (conn_of self.old) }
+    fn hear(&mut self, available: bool)
+        ensures { conn_of self.new ≡ heard available (conn_of self.old).chained (conn_of self.old) }
     {
-        self.owed = Some(owed);
-    }
-
-    // The mark of the turn goes.
-    pub(crate) fn unmark(&mut self)
-        ensures { conn_of self.new ≡ unmarked (conn_of self.old) }
-    {
+        self.state = State::Active;
         self.out = false;
+        self.available = available;
+        self.fragments.clear();
     }
 
     // A fragment joins those before it, if there is room. Whether there was is a bool, as of an insertion into a set: nothing else is to be told.
@@ -125,43 +161,11 @@ impl Connection {
         self.fragments.try_extend_from_slice(more).is_ok()
     }
 
-    // The first n bytes of the fragments are left.
-    pub(crate) fn cut(&mut self, n: usize)
-        ensures { conn_of self.new ≡ fragments_to (take n (conn_of self.old).fragments) (conn_of self.old) }
-    {
-        self.fragments.truncate(n);
-    }
-
     // A part of the fragments joins the data, if there is room; whether there was is told as by `join`.
     pub(crate) fn chain(&mut self, start: usize, n: usize) -> bool
         ensures { adding (nat_le (length (conn_of self.old).chained + length (part_of start n (conn_of self.old))) 2048) (chaining start n) (conn_of self.old) ≡ (result, conn_of self.new) }
     {
         let more = part(self.fragments.as_slice(), start, n);
         self.chained.try_extend_from_slice(more).is_ok()
-    }
-
-    // The first n bytes of the data are left.
-    pub(crate) fn cut_data(&mut self, n: usize)
-        ensures { conn_of self.new ≡ chained_to (take n (conn_of self.old).chained) (conn_of self.old) }
-    {
-        self.chained.truncate(n);
-    }
-
-    // A whole unit was heard, and the data stay.
-    pub(crate) fn hear(&mut self, available: bool)
-        ensures { conn_of self.new ≡ heard available (conn_of self.old).chained (conn_of self.old) }
-    {
-        self.state = State::Active;
-        self.out = false;
-        self.available = available;
-        self.fragments.clear();
-    }
-
-    // A whole unit was heard, and the data are read.
-    pub(crate) fn hear_all(&mut self, available: bool)
-        ensures { conn_of self.new ≡ heard available [] (conn_of self.old) }
-    {
-        self.hear(available);
-        self.chained.clear();
     }
 }

@@ -1,19 +1,19 @@
 // What a slot keeps, with no promise between its parts.
-ghost use Rattle.std.specs.Prelude.{◌≡◌, ◌+◌, ◌<◌, ◌&&◌, leb, if◌then◌else◌, [], length, take, is_some, Some, None, nat_le, IfSome};
+ghost use Rattle.std.specs.Prelude.{◌≡◌, ◌+◌, ◌<◌, ◌&&◌, leb, if◌then◌else◌, length, is_some, Some, None, nat_le, IfSome};
 ghost use Rattle.std.specs.Borrow.{sem};
 ghost use Rattle.std.specs.Option.{option_map};
 ghost use Rattle.resource.specs.Tables.{numbers, first};
-ghost use Rattle.protocol.specs.Record.{bare as stripped, sent, owing, unmarked, joining, heard, fresh, with_row, with_module, without_module, free, greets as greets_on};
-ghost use Rattle.record.specs.Views.{conn_of, owed_of, fragments_to, chained_to, part_of, chaining};
+ghost use Rattle.protocol.specs.Record.{joining, fresh, with_row, with_module, without_module, free, greets as greets_on};
+ghost use Rattle.record.specs.Views.{conn_of, part_of, chaining};
 ghost use Rattle.record.specs.Adding.{adding};
+ghost use Rattle.record.specs.Changes.{changed};
 ghost use Rattle.record.specs.Records.{slot_of, size_of, alter, numbered, session_view};
 ghost use Rattle.record.specs.Lines.{LendsLine};
 
-use crate::connection::Connection;
+use crate::connection::{Change, Connection};
 use crate::size::AgreedSize;
 use number::{ConnectionId, SessionNumber};
-use piece::Piece;
-use protocol::{Owed, Row, State};
+use protocol::{Row, State};
 
 // An open session with its number.
 #[derive(Clone, Copy)]
@@ -33,7 +33,7 @@ pub struct Record {
     rows: [Option<Row>; 16],
 }
 
-#[tactic(auto, using(crate::proofs::Rows::line_write, crate::proofs::Rows::row_write), unfolding(crate::specs::Records::slot_of))]
+#[tactic(auto, using(crate::proofs::Rows::row_write), unfolding(crate::specs::Records::slot_of))]
 impl Record {
     // A slot of a new host.
     pub fn new() -> Record
@@ -86,28 +86,12 @@ impl Record {
         self.rows[n.get() as usize - 1] = row;
     }
 
-    pub fn bare(&mut self, c: ConnectionId, state: State, out: bool)
-        ensures { slot_of self.new ≡ alter c.number (λ _. stripped state out) (slot_of self.old) }
+    #[inline]
+    #[tactic(auto, using(crate::proofs::Rows::line_write))]
+    pub fn change(&mut self, c: ConnectionId, change: Change)
+        ensures { slot_of self.new ≡ alter c.number (changed change) (slot_of self.old) }
     {
-        self.line(c).bare(state, out);
-    }
-
-    pub fn send(&mut self, c: ConnectionId, state: State)
-        ensures { slot_of self.new ≡ alter c.number (sent state) (slot_of self.old) }
-    {
-        self.line(c).send(state);
-    }
-
-    pub fn owe(&mut self, c: ConnectionId, owed: Owed<Piece>)
-        ensures { slot_of self.new ≡ alter c.number (owing (owed_of owed)) (slot_of self.old) }
-    {
-        self.line(c).owe(owed);
-    }
-
-    pub fn unmark(&mut self, c: ConnectionId)
-        ensures { slot_of self.new ≡ alter c.number unmarked (slot_of self.old) }
-    {
-        self.line(c).unmark();
+        self.line(c).change(change);
     }
 
     // Whether there was room: see `Connection`.
@@ -117,35 +101,11 @@ impl Record {
         self.line(c).join(more)
     }
 
-    pub fn cut(&mut self, c: ConnectionId, n: usize)
-        ensures { slot_of self.new ≡ alter c.number (λ x. fragments_to (take n x.fragments) x) (slot_of self.old) }
-    {
-        self.line(c).cut(n);
-    }
-
     // Whether there was room: see `Connection`.
     pub fn chain(&mut self, c: ConnectionId, start: usize, n: usize) -> bool
         ensures { adding (nat_le (length ((slot_of self.old).conn c.number).chained + length (part_of start n ((slot_of self.old).conn c.number))) 2048) (alter c.number (chaining start n)) (slot_of self.old) ≡ (result, slot_of self.new) }
     {
         self.line(c).chain(start, n)
-    }
-
-    pub fn cut_data(&mut self, c: ConnectionId, n: usize)
-        ensures { slot_of self.new ≡ alter c.number (λ x. chained_to (take n x.chained) x) (slot_of self.old) }
-    {
-        self.line(c).cut_data(n);
-    }
-
-    pub fn hear(&mut self, c: ConnectionId, available: bool)
-        ensures { slot_of self.new ≡ alter c.number (λ x. heard available x.chained x) (slot_of self.old) }
-    {
-        self.line(c).hear(available);
-    }
-
-    pub fn hear_all(&mut self, c: ConnectionId, available: bool)
-        ensures { slot_of self.new ≡ alter c.number (heard available []) (slot_of self.old) }
-    {
-        self.line(c).hear_all(available);
     }
 
     // A module is there.

@@ -22,6 +22,7 @@ use lpdu::write_lpdus;
 use number::{ConnectionId, SessionNumber};
 use piece::Piece;
 use protocol::{Owed, Row, State};
+use record::connection::Change;
 use record::size::AgreedSize;
 use record::slots::Record;
 use refusal::Refusal;
@@ -208,21 +209,22 @@ impl<'a, R: Resource> Place<'a, R> {
     {
         let c = self.c;
         match due {
-            Due::Create => self.record.send(c, State::Creating),
-            Due::Delete => self.record.send(c, State::Deleting),
-            Due::DeleteReply => self.record.bare(c, State::Idle, false),
+            Due::Create => self.record.change(c, Change::Send(State::Creating)),
+            Due::Delete => self.record.change(c, Change::Send(State::Deleting)),
+            Due::DeleteReply => self.record.change(c, Change::Bare(State::Idle, false)),
             Due::NewConnection => {
-                self.record.send(c, State::Active);
+                self.record.change(c, Change::Send(State::Active));
                 let mark = self.record.connection(c.other()).is_out();
-                self.record.bare(c.other(), State::CreateDue, mark);
+                self.record
+                    .change(c.other(), Change::Bare(State::CreateDue, mark));
             }
             Due::Greet(n, row, _) => {
                 let greeted = Row { due: false, ..row };
                 self.record.set_row(n, Some(greeted));
-                self.record.send(c, State::Active);
+                self.record.change(c, Change::Send(State::Active));
             }
             Due::NoConnection | Due::Say(_) | Due::Receive | Due::Poll => {
-                self.record.send(c, State::Active)
+                self.record.change(c, Change::Send(State::Active))
             }
         }
     }

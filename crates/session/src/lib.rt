@@ -17,6 +17,7 @@ use identifier::is_older;
 use number::ConnectionId;
 use piece::Piece;
 use protocol::{Owed, Row};
+use record::connection::Change;
 use record::slots::Record;
 use refusal::Refusal;
 use resource::{Readiness, Resource};
@@ -41,7 +42,8 @@ pub enum CloseStatus {
 fn refuse_open(slot: &mut Record, c: ConnectionId, status: u8, identifier: u32)
     ensures { slot_of slot.new ≡ alter c.number (owing (Say (Opened status identifier 0))) (slot_of slot.old) }
 {
-    slot.owe(c, Owed::Say(Reply::Opened(status, identifier, 0)));
+    let reply = Reply::Opened(status, identifier, 0);
+    slot.change(c, Change::Owe(Owed::Say(reply)));
 }
 
 // A session with a listed identifier is asked for.
@@ -63,10 +65,8 @@ fn open_listed<R: Resource>(place: &mut Place<'_, R>, c: ConnectionId, listed: u
             };
             place.resource.opened(place.at, listed, n.get());
             place.slot.set_row(n, Some(row));
-            place.slot.owe(
-                c,
-                Owed::Say(Reply::Opened(status.into(), listed, n.get() as u16)),
-            );
+            let reply = Reply::Opened(status.into(), listed, n.get() as u16);
+            place.slot.change(c, Change::Owe(Owed::Say(reply)));
         }
     }
 }
@@ -97,9 +97,8 @@ fn close<R: Resource>(place: &mut Place<'_, R>, c: ConnectionId, number: u16)
         CloseStatus::NotOpen
     };
     place.close_row(c, number);
-    place
-        .slot
-        .owe(c, Owed::Say(Reply::Closed(status as u8, number)));
+    let reply = Reply::Closed(status as u8, number);
+    place.slot.change(c, Change::Owe(Owed::Say(reply)));
 }
 
 // An object comes for a session: what is owed for it. Its bytes lie in the record, so that it is lent apart from the resource.
@@ -133,23 +132,23 @@ pub fn hear_session<R: Resource>(
     ensures { TryAt R.Resource.meaning (λ made k st. session_unit R.Resource.meaning made k c.number (st.slot.conn c.number).chained (hear c.number available [] st)) result place.old place.new }
 {
     if place.slot.connection(c).chained().is_empty() {
-        place.slot.hear_all(c, available);
+        place.slot.change(c, Change::HearAll(available));
         return Ok(());
     }
     match SpduReader::new(place.slot.connection(c).chained()).request()? {
         Request::Open(identifier) => {
-            place.slot.hear_all(c, available);
+            place.slot.change(c, Change::HearAll(available));
             open(place, c, identifier);
         }
         Request::Close(number) => {
-            place.slot.hear_all(c, available);
+            place.slot.change(c, Change::HearAll(available));
             close(place, c, number);
         }
         Request::Data(number, body) => {
             let owed = pass(place.slot, place.resource, place.at, c, number, body.bytes)?;
-            place.slot.hear_all(c, available);
+            place.slot.change(c, Change::HearAll(available));
             if let Some(owed) = owed {
-                place.slot.owe(c, owed);
+                place.slot.change(c, Change::Owe(owed));
             }
         }
     }

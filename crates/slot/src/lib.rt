@@ -11,6 +11,7 @@ ghost use Rattle.slot.specs.Places.{StepAt, DidAt};
 
 use number::ConnectionId;
 use protocol::State;
+use record::connection::Change;
 use record::size::AgreedSize;
 use record::slots::{Record, Session};
 use refusal::Refusal;
@@ -64,7 +65,7 @@ impl<'a, R: Resource> Place<'a, R> {
         ensures { StepAt R.Resource.meaning (λ made k. leaving R.Resource.meaning made k c.number state false) self.old self.new }
     {
         self.close_all(c);
-        self.slot.bare(c, state, false);
+        self.slot.change(c, Change::Bare(state, false));
     }
 
     pub fn plug(&mut self, size: u16) -> Result<(), Refusal>
@@ -113,7 +114,7 @@ impl<'a, R: Resource> Place<'a, R> {
         if self.slot.connection(c).is_out() {
             match self.slot.connection(c).state() {
                 State::Creating | State::Active | State::Deleting => self.leave(c, State::Idle),
-                _ => self.slot.unmark(c),
+                _ => self.slot.change(c, Change::Unmark),
             }
         }
     }

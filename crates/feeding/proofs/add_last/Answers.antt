@@ -22,7 +22,7 @@ returns-in-Err g c =
     let heard = last_data M (M.made r) at k c.args.available d.start d.length s (slot_of c.add.new.slot) (M.share r at) on.1 in
     let h = c.in-Err.ensures in
     let count : held ≡ length x.chained = search rules in
-    let back = c.cut_data.ensures ∙ ap (alter k (λ z. chained_to (take held z.chained) z)) (ap (λ z. z.slot) h.tried.refused ∙ on.1) ∙ undo k f (λ z. chained_to (take held z.chained) z) s (undo_data d.start d.length held x count) in
+    let back = c.change.ensures ∙ ap (alter k (λ z. chained_to (take held z.chained) z)) (ap (λ z. z.slot) h.tried.refused ∙ on.1) ∙ undo k f (λ z. chained_to (take held z.chained) z) s (undo_data d.start d.length held x count) in
     record {
       same = record { slot = h.same.slot; resource = h.same.resource; at = h.same.at };
       tried = record {

@@ -27,7 +27,7 @@ returns-in-Err g c =
     let took = h.tried.after ∙ ap (λ s. whole M made at k (record { slot = s; share = st.share })) on.1 in
     let told = ap (λ z. then z (serve done)) took ∙ ap (λ b. joined M made at k b st1) (sym c.if-more.false) ∙ passed_by _ no.Fragments (not_many 1024 x.fragments bs on.0) in
     let count : held ≡ length x.fragments = search rules in
-    let back = c.cut.ensures ∙ ap (alter k (λ z. fragments_to (take held z.fragments) z)) (ap (λ z. z.slot) h.tried.refused ∙ on.1) ∙ undo k (joining bs) (λ z. fragments_to (take held z.fragments) z) st.slot (undo_join bs held x count) in
+    let back = c.change.ensures ∙ ap (alter k (λ z. fragments_to (take held z.fragments) z)) (ap (λ z. z.slot) h.tried.refused ∙ on.1) ∙ undo k (joining bs) (λ z. fragments_to (take held z.fragments) z) st.slot (undo_join bs held x count) in
     record {
       same = record { slot = h.same.slot; resource = h.same.resource; at = h.same.at };
       serves = record {

@@ -56,7 +56,7 @@ returns-in-Some g c =
       same = record { slot = refl; resource = refl; at = refl };
       tried = record {
         after =
-            ap (λ x. Ok (record { slot = x; share = y })) (c.owe.ensures ∙ ap (alter k (owing o)) c.hear_all-in-Data.ensures)
+            ap (λ x. Ok (record { slot = x; share = y })) (c.change-in-Some.ensures ∙ ap (alter k (owing o)) c.change-in-Data.ensures)
             ∙ sym (session_passes M (M.made r) at k n chained (part c.in-Data.body) (hear k c.args.available [] st) _ y some read passed);
         refused = tt;
         kept = c.pass.ensures.kept;
