@@ -152,7 +152,7 @@ impl Record {
 }
 
 // A session's number as two bytes tell it, if it is within the limits.
-pub fn session_number(number: u16) -> Option<SessionNumber>
+fn session_number(number: u16) -> Option<SessionNumber>
     ensures { option_map (λ n. n.number) result ≡ (if leb 1 number && nat_le number 16 then Some number else None) }
 {
     u8::try_from(number).ok().and_then(SessionNumber::new)
