@@ -34,7 +34,7 @@ mod tests {
     const GREETING: &[u8] = &[1, 0, 0xA0, 9, 1, 0x90, 2, 0, 1, 0x9F, 0x80, 0x10, 0];
 
     // What came of a call; of a next, the bytes and whether it handed out a turn.
-    #[derive(Clone, Copy, PartialEq, Eq, Debug)]
+    #[derive(Clone, Copy, PartialEq, Eq)]
     enum Said<'a> {
         Nothing,
         Done,
@@ -43,55 +43,97 @@ mod tests {
         Refused(Refusal),
     }
 
-    fn outcome<'a>(answer: Result<Answer, Refusal>, out: &'a [u8]) -> Said<'a> {
+    fn outcome<'a>(answer: Option<Result<Answer, Refusal>>, out: &'a [u8]) -> Said<'a> {
         match answer {
-            Ok(Answer::Done) => Said::Done,
-            Ok(Answer::More) => Said::More,
-            Ok(Answer::Sent(length, turn)) => {
+            None => Said::Nothing,
+            Some(Ok(Answer::Done)) => Said::Done,
+            Some(Ok(Answer::More)) => Said::More,
+            Some(Ok(Answer::Sent(length, turn))) => {
                 Said::Sent(out.get(..length).unwrap_or_default(), turn)
             }
-            Err(refusal) => Said::Refused(refusal),
+            Some(Err(refusal)) => Said::Refused(refusal),
         }
     }
 
     // A call, the LPDU of a feed, and what comes of it.
     type Step<'a> = (Call, &'a [u8], Said<'a>);
 
+    // What is looked at after the steps: a slot's size, a connection's state and whether its turn is out, a session, or one more next, with what its buffer of 0xEEs then holds.
+    #[derive(Clone, Copy)]
+    enum Look<'a> {
+        Size(u8, Option<u16>),
+        Line(u8, u8, Option<(State, bool)>),
+        Session(u8, u16, Option<Row>),
+        Next(u8, u8, Said<'a>, &'a [u8]),
+    }
+
+    const UNWRITTEN: [u8; 152] = [0xEE; 152];
+
     fn entry<'a>(call: Call, lpdu: &'a [u8]) -> Entry<'a> {
         Entry {
             call,
             lpdu,
-            out: [0xEE; 152],
+            out: UNWRITTEN,
             answer: None,
         }
     }
 
-    // Plays the steps on a new host, and holds each answer against the step's.
-    fn play(
-        rt: &impl Abort,
-        alloc: Global,
-        steps: &[Step<'_>],
-    ) -> Result<Player<Three>, AllocError> {
+    fn entries<'a>(alloc: Global, steps: &[Step<'a>]) -> Result<Vec<Entry<'a>>, AllocError> {
         let mut entries = Vec::new(alloc);
         for step in steps {
             entries.push(entry(step.0, step.1))?;
         }
-        let player = Player::play(three(&THREE), entries.as_mut_slice());
-        for (i, (entry, step)) in entries.iter().zip(steps).enumerate() {
-            let got = entry
-                .answer
-                .map_or(Said::Nothing, |answer| outcome(answer, &entry.out));
-            assert_eq!(rt; got, step.2, "step {i}");
-        }
-        Ok(player)
+        Ok(entries)
     }
 
-    fn line(player: &Player<Three>, slot: u8, connection: u8) -> Option<(State, bool)> {
-        player
-            .host()
-            .line(slot, connection)
-            .map(|Line { state, out }| (state, out))
+    // Holds each answer against its step's.
+    fn answers(rt: &impl Abort, entries: &[Entry<'_>], steps: &[Step<'_>]) {
+        for (i, (entry, step)) in entries.iter().zip(steps).enumerate() {
+            assert!(rt; outcome(entry.answer, &entry.out) == step.2, "step {i}");
+        }
     }
+
+    // Whether the player shows so.
+    fn shows(player: &mut Player<Three>, look: Look<'_>) -> bool {
+        let host = player.host();
+        match look {
+            Look::Size(slot, size) => host.size(slot) == size,
+            Look::Line(slot, connection, expected) => {
+                let line = host.line(slot, connection);
+                line.map(|Line { state, out }| (state, out)) == expected
+            }
+            Look::Session(slot, number, row) => host.session(slot, number) == row,
+            Look::Next(slot, connection, said, left) => {
+                let mut out = UNWRITTEN;
+                let out = out.get_mut(..left.len()).unwrap_or_default();
+                let answer = player.call(Call::Next(slot, connection), &[], out);
+                outcome(Some(answer), out) == said && &*out == left
+            }
+        }
+    }
+
+    // Plays the steps on a new host, and holds each answer, and then each look, against its table.
+    fn play(
+        rt: &impl Abort,
+        alloc: Global,
+        steps: &[Step<'_>],
+        looks: &[Look<'_>],
+    ) -> Result<(), Fail> {
+        let mut entries = entries(alloc, steps)?;
+        let mut player = Player::play(three(&THREE), entries.as_mut_slice());
+        answers(rt, entries.as_slice(), steps);
+        for (i, look) in looks.iter().enumerate() {
+            assert!(rt; shows(&mut player, *look), "look {i}");
+        }
+        player.finish();
+        Ok(())
+    }
+
+    const JUST_OPENED: Option<Row> = Some(Row {
+        connection: 1,
+        identifier: RESOURCE_MANAGER,
+        due: true,
+    });
 
     const WAITS: &[u8] = &[1, 0, 0x80, 2, 1, 0x80];
 
@@ -104,16 +146,17 @@ mod tests {
         (Call::Next(0, 1), &[], Said::Sent(&[1, 0, 0x81, 1, 1], true)),
     ];
 
+    const CREATED_LINES: &[Look<'static>] = &[
+        Look::Size(0, Some(16)),
+        Look::Line(0, 1, Some((State::Active, true))),
+        Look::Line(0, 2, Some((State::Idle, false))),
+        Look::Line(1, 1, Some((State::Idle, false))),
+        Look::Size(1, None),
+    ];
+
     #[test]
     fn creates_and_polls(rt: HostRuntime) -> Result<(), Fail> {
-        let player = play(&rt, rt.alloc(), CREATION)?;
-        assert_eq!(rt; player.host().size(0), Some(16));
-        assert_eq!(rt; line(&player, 0, 1), Some((State::Active, true)));
-        assert_eq!(rt; line(&player, 0, 2), Some((State::Idle, false)));
-        assert_eq!(rt; line(&player, 1, 1), Some((State::Idle, false)));
-        assert_eq!(rt; player.host().size(1), None);
-        player.finish();
-        Ok(())
+        play(&rt, rt.alloc(), CREATION, CREATED_LINES)
     }
 
     const ENQUIRES: &[u8] = &[
@@ -147,12 +190,11 @@ mod tests {
         (Call::Next(0, 1), &[], Said::Sent(POLL, true)),
     ];
 
+    const AFTER_A_SESSION: &[Look<'static>] = &[Look::Session(0, 1, None)];
+
     #[test]
     fn opens_greets_and_closes(rt: HostRuntime) -> Result<(), Fail> {
-        let player = play(&rt, rt.alloc(), A_SESSION)?;
-        assert_eq!(rt; player.host().session(0, 1), None);
-        player.finish();
-        Ok(())
+        play(&rt, rt.alloc(), A_SESSION, AFTER_A_SESSION)
     }
 
     const STATUS_2: &[u8] = &[2, 0, 0x80, 2, 2, 0];
@@ -199,20 +241,16 @@ mod tests {
         (Call::Feed(3, 2), STATUS_2, Said::Done),
     ];
 
+    const AFTER_TWO_CONNECTIONS: &[Look<'static>] = &[
+        Look::Session(3, 1, JUST_OPENED),
+        Look::Session(3, 2, None),
+        Look::Line(3, 1, Some((State::Active, true))),
+        Look::Line(3, 2, Some((State::Active, false))),
+    ];
+
     #[test]
     fn one_connection_closes_no_session_of_the_other(rt: HostRuntime) -> Result<(), Fail> {
-        let player = play(&rt, rt.alloc(), TWO_CONNECTIONS)?;
-        let open = Row {
-            connection: 1,
-            identifier: RESOURCE_MANAGER,
-            due: true,
-        };
-        assert_eq!(rt; player.host().session(3, 1), Some(open));
-        assert_eq!(rt; player.host().session(3, 2), None);
-        assert_eq!(rt; line(&player, 3, 1), Some((State::Active, true)));
-        assert_eq!(rt; line(&player, 3, 2), Some((State::Active, false)));
-        player.finish();
-        Ok(())
+        play(&rt, rt.alloc(), TWO_CONNECTIONS, AFTER_TWO_CONNECTIONS)
     }
 
     const A_PULL: &[Step<'static>] = &[
@@ -230,13 +268,14 @@ mod tests {
         (Call::Feed(2, 1), CREATED, Said::Refused(Refusal::Turn)),
     ];
 
+    const AFTER_A_PULL: &[Look<'static>] = &[
+        Look::Size(2, Some(64)),
+        Look::Line(2, 1, Some((State::CreateDue, false))),
+    ];
+
     #[test]
     fn a_turn_outlives_a_pull(rt: HostRuntime) -> Result<(), Fail> {
-        let player = play(&rt, rt.alloc(), A_PULL)?;
-        assert_eq!(rt; player.host().size(2), Some(64));
-        assert_eq!(rt; line(&player, 2, 1), Some((State::CreateDue, false)));
-        player.finish();
-        Ok(())
+        play(&rt, rt.alloc(), A_PULL, AFTER_A_PULL)
     }
 
     const REPLIES: &[u8] = &[1, 0, 0x85, 1, 1, 0x80, 2, 1, 0];
@@ -252,6 +291,19 @@ mod tests {
         (Call::Next(0, 1), &[], Said::Sent(&[1, 0, 0x84, 1, 1], true)),
         (Call::Feed(0, 1), REPLIES, Said::Done),
         (Call::Next(0, 1), &[], Said::Refused(Refusal::State)),
+    ];
+
+    const AFTER_ENDS: &[Look<'static>] = &[
+        Look::Session(0, 1, None),
+        Look::Line(0, 1, Some((State::Idle, false))),
+    ];
+
+    #[test]
+    fn ends(rt: HostRuntime) -> Result<(), Fail> {
+        play(&rt, rt.alloc(), ENDS, AFTER_ENDS)
+    }
+
+    const OPENING: &[Step<'static>] = &[
         (Call::Plug(1, 32), &[], Said::Done),
         (Call::Next(1, 1), &[], Said::Sent(CREATE, true)),
         (Call::Feed(1, 1), CREATED, Said::Done),
@@ -260,18 +312,34 @@ mod tests {
         (Call::Next(1, 1), &[], Said::Sent(OPENED, true)),
     ];
 
+    const OPEN_SESSION: &[Look<'static>] = &[
+        Look::Session(1, 1, JUST_OPENED),
+        Look::Line(1, 1, Some((State::Active, true))),
+    ];
+
     #[test]
-    fn ends_and_expires(rt: HostRuntime) -> Result<(), Fail> {
-        let mut player = play(&rt, rt.alloc(), ENDS)?;
-        assert_eq!(rt; player.host().session(0, 1), None);
-        assert_eq!(rt; line(&player, 0, 1), Some((State::Idle, false)));
-        assert!(rt; player.host().session(1, 1).is_some());
-        let answer = player.call(Call::Expire(1, 1), &[], &mut []);
-        assert_eq!(rt; outcome(answer, &[]), Said::Done);
-        assert_eq!(rt; player.host().session(1, 1), None);
-        assert_eq!(rt; line(&player, 1, 1), Some((State::Idle, false)));
-        player.finish();
-        Ok(())
+    fn opens(rt: HostRuntime) -> Result<(), Fail> {
+        play(&rt, rt.alloc(), OPENING, OPEN_SESSION)
+    }
+
+    const EXPIRES: &[Step<'static>] = &[
+        (Call::Plug(1, 32), &[], Said::Done),
+        (Call::Next(1, 1), &[], Said::Sent(CREATE, true)),
+        (Call::Feed(1, 1), CREATED, Said::Done),
+        (Call::Next(1, 1), &[], Said::Sent(POLL, true)),
+        (Call::Feed(1, 1), OPEN, Said::Done),
+        (Call::Next(1, 1), &[], Said::Sent(OPENED, true)),
+        (Call::Expire(1, 1), &[], Said::Done),
+    ];
+
+    const AFTER_EXPIRES: &[Look<'static>] = &[
+        Look::Session(1, 1, None),
+        Look::Line(1, 1, Some((State::Idle, false))),
+    ];
+
+    #[test]
+    fn expires(rt: HostRuntime) -> Result<(), Fail> {
+        play(&rt, rt.alloc(), EXPIRES, AFTER_EXPIRES)
     }
 
     const REFUSALS: &[Step<'static>] = &[
@@ -303,33 +371,30 @@ mod tests {
         (Call::Clock([0, 0, 0x23, 0x59, 0x59]), &[], Said::Done),
     ];
 
+    const AFTER_REFUSALS: &[Look<'static>] = &[
+        Look::Line(0, 1, Some((State::CreateDue, false))),
+        Look::Line(4, 1, None),
+        Look::Line(0, 3, None),
+        Look::Size(4, None),
+        Look::Session(4, 1, None),
+        Look::Session(0, 17, None),
+    ];
+
     #[test]
     fn refuses_in_order(rt: HostRuntime) -> Result<(), Fail> {
-        let player = play(&rt, rt.alloc(), REFUSALS)?;
-        assert_eq!(rt; line(&player, 0, 1), Some((State::CreateDue, false)));
-        assert_eq!(rt; line(&player, 4, 1), None);
-        assert_eq!(rt; line(&player, 0, 3), None);
-        assert_eq!(rt; player.host().size(4), None);
-        assert_eq!(rt; player.host().session(4, 1), None);
-        assert_eq!(rt; player.host().session(0, 17), None);
-        player.finish();
-        Ok(())
+        play(&rt, rt.alloc(), REFUSALS, AFTER_REFUSALS)
     }
 
     const PLUGGED: &[Step<'static>] = &[(Call::Plug(0, 16), &[], Said::Done)];
 
+    const ROOMS: &[Look<'static>] = &[
+        Look::Next(0, 1, Said::Refused(Refusal::Room), &[0xEE; 4]),
+        Look::Next(0, 1, Said::Sent(CREATE, true), CREATE),
+    ];
+
     #[test]
     fn a_command_needs_its_room(rt: HostRuntime) -> Result<(), Fail> {
-        let mut player = play(&rt, rt.alloc(), PLUGGED)?;
-        let mut out = [0xEE; 4];
-        let short = player.call(Call::Next(0, 1), &[], &mut out);
-        assert_eq!(rt; outcome(short, &out), Said::Refused(Refusal::Room));
-        assert_eq!(rt; out, [0xEE; 4]);
-        let mut out = [0xEE; 5];
-        let full = player.call(Call::Next(0, 1), &[], &mut out);
-        assert_eq!(rt; outcome(full, &out), Said::Sent(CREATE, true));
-        player.finish();
-        Ok(())
+        play(&rt, rt.alloc(), PLUGGED, ROOMS)
     }
 }
 

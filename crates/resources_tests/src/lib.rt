@@ -10,201 +10,277 @@ mod tests {
     use piece::Piece;
     use resource::{Refused, Resource};
     use standard::{APPLICATION_INFORMATION, DATE_TIME, RESOURCE_MANAGER, THREE, standard};
+    use std::process::Abort;
 
     // What is answered to an object, with the bytes of a reply.
     type Answer<'a> = Result<Option<&'a [u8]>, Refused>;
 
+    // A session's slot, identifier and number.
+    type Session = (u8, u32, u8);
+
+    // A call to a resource, and what it answers: of `ready`, the status byte. An object is a tag and a body.
+    #[derive(Clone, Copy)]
+    enum Step<'a> {
+        Opened(Session),
+        Closed(Session),
+        Gone(u8),
+        Clock([u8; 5]),
+        Find(u32, Option<u32>),
+        Ready(u8, u32, u8),
+        Greeting(u32, Option<&'a [u8]>),
+        Count(u8, usize),
+        Object(Session, u32, &'a [u8], Answer<'a>),
+    }
+
+    fn bytes(piece: &Option<Piece>) -> Option<&[u8]> {
+        piece.as_ref().map(|piece| piece.bytes())
+    }
+
     fn said(answer: &Result<Option<Piece>, Refused>) -> Answer<'_> {
-        answer
-            .as_ref()
-            .map(|reply| reply.as_ref().map(|piece| piece.bytes()))
-            .map_err(|refused| *refused)
+        match answer {
+            Ok(reply) => Ok(bytes(reply)),
+            Err(refused) => Err(*refused),
+        }
     }
 
-    fn greets(got: Option<Piece>, bytes: &[u8]) -> bool {
-        got.is_some_and(|piece| piece.bytes() == bytes)
+    // Makes a call, and tells whether it answers as the step says.
+    fn agrees<R: Resource>(resource: &mut R, step: Step<'_>) -> bool {
+        match step {
+            Step::Opened((slot, identifier, number)) => {
+                resource.opened(slot, identifier, number);
+                true
+            }
+            Step::Closed((slot, identifier, number)) => {
+                resource.closed(slot, identifier, number);
+                true
+            }
+            Step::Gone(slot) => {
+                resource.gone(slot);
+                true
+            }
+            Step::Clock(time) => {
+                resource.clock(time);
+                true
+            }
+            Step::Find(identifier, found) => resource.find(identifier) == found,
+            Step::Ready(slot, identifier, status) => {
+                u8::from(resource.ready(slot, identifier)) == status
+            }
+            Step::Greeting(identifier, greeting) => {
+                bytes(&resource.greeting(identifier)) == greeting
+            }
+            Step::Count(slot, count) => resource.count(slot) == count,
+            Step::Object((slot, identifier, number), tag, body, answer) => {
+                said(&resource.object(slot, identifier, number, Apdu { tag, body })) == answer
+            }
+        }
     }
 
-    const DATE_TIME_OBJECTS: &[(u32, &'static [u8], Answer<'static>)] = &[
-        (
+    fn play_on<R: Resource>(rt: &impl Abort, resource: &mut R, steps: &[Step<'_>]) {
+        for (i, step) in steps.iter().enumerate() {
+            assert!(rt; agrees(resource, *step), "step {i}");
+        }
+    }
+
+    fn play<R: Resource + Drop>(rt: &impl Abort, mut resource: R, steps: &[Step<'_>]) {
+        play_on(rt, &mut resource, steps);
+    }
+
+    const WRONG_LENGTH: Answer<'static> = Err(Refused(1));
+
+    const TIME_TOLD: &[Step<'static>] = &[
+        Step::Find(0x00240042, Some(DATE_TIME)),
+        Step::Find(RESOURCE_MANAGER, None),
+        Step::Greeting(DATE_TIME, None),
+        Step::Opened((0, DATE_TIME, 1)),
+        Step::Object((0, DATE_TIME, 1), 0x9F8440, &[0], Ok(None)),
+        Step::Clock([0xC0, 0x79, 0x12, 0x45, 0x00]),
+        Step::Object(
+            (0, DATE_TIME, 1),
             0x9F8440,
             &[0],
             Ok(Some(&[0x9F, 0x84, 0x41, 5, 0xC0, 0x79, 0x12, 0x45, 0x00])),
         ),
-        (0x9F8440, &[], Err(Refused(1))),
-        (0x9F8440, &[0, 0], Err(Refused(1))),
-        (0x9F8441, &[0], Ok(None)),
+        Step::Object((0, DATE_TIME, 1), 0x9F8440, &[], WRONG_LENGTH),
+        Step::Object((0, DATE_TIME, 1), 0x9F8440, &[0, 0], WRONG_LENGTH),
+        Step::Object((0, DATE_TIME, 1), 0x9F8441, &[0], Ok(None)),
+        // Not held, and in another slot.
+        Step::Object((0, DATE_TIME, 2), 0x9F8440, &[0], Ok(None)),
+        Step::Object((1, DATE_TIME, 1), 0x9F8440, &[0], Ok(None)),
     ];
 
     #[test]
     fn date_time(rt: HostRuntime) {
-        let mut r = DateTime::resource();
-        let asks: Apdu<&[u8]> = Apdu {
-            tag: 0x9F8440,
-            body: &[0],
-        };
-        assert_eq!(rt; r.find(0x00240042), Some(DATE_TIME));
-        assert_eq!(rt; r.find(RESOURCE_MANAGER), None);
-        assert!(rt; r.greeting(DATE_TIME).is_none());
-        r.opened(0, DATE_TIME, 1);
-        assert_eq!(rt; said(&r.object(0, DATE_TIME, 1, asks)), Ok(None));
-        r.clock([0xC0, 0x79, 0x12, 0x45, 0x00]);
-        for &(tag, body, expected) in DATE_TIME_OBJECTS {
-            assert_eq!(rt;
-                said(&r.object(0, DATE_TIME, 1, Apdu { tag, body })),
-                expected
-            );
-        }
-        assert_eq!(rt;
-            said(&r.object(0, DATE_TIME, 2, asks)),
-            Ok(None),
-            "not held"
-        );
-        assert_eq!(rt;
-            said(&r.object(1, DATE_TIME, 1, asks)),
-            Ok(None),
-            "another slot"
-        );
+        play(&rt, DateTime::resource(), TIME_TOLD);
     }
 
-    const MANAGER_OBJECTS: &[(u8, u32, &'static [u8], Answer<'static>)] = &[
-        (
-            1,
+    const CHANGED: Answer<'static> = Ok(Some(&[0x9F, 0x80, 0x12, 0]));
+
+    const PROFILES: &[Step<'static>] = &[
+        Step::Greeting(RESOURCE_MANAGER, Some(&[0x9F, 0x80, 0x10, 0])),
+        Step::Opened((2, RESOURCE_MANAGER, 1)),
+        Step::Opened((2, RESOURCE_MANAGER, 16)),
+        Step::Object(
+            (2, RESOURCE_MANAGER, 1),
             0x9F8010,
             &[],
             Ok(Some(&[0x9F, 0x80, 0x11, 8, 0, 1, 0, 0x41, 0, 0x24, 0, 0x41])),
         ),
-        (1, 0x9F8010, &[0], Err(Refused(1))),
-        (1, 0x9F8011, &[0, 1, 0], Err(Refused(1))),
-        (
-            1,
+        Step::Object((2, RESOURCE_MANAGER, 1), 0x9F8010, &[0], WRONG_LENGTH),
+        Step::Object((2, RESOURCE_MANAGER, 1), 0x9F8011, &[0, 1, 0], WRONG_LENGTH),
+        Step::Object(
+            (2, RESOURCE_MANAGER, 1),
             0x9F8011,
             &[0, 1, 0, 0x41],
-            Ok(Some(&[0x9F, 0x80, 0x12, 0])),
+            CHANGED,
         ),
-        (1, 0x9F8011, &[], Ok(None)),
-        (16, 0x9F8011, &[], Ok(Some(&[0x9F, 0x80, 0x12, 0]))),
-        (16, 0x9F8011, &[], Ok(None)),
-        (16, 0x9F8012, &[], Ok(Some(&[0x9F, 0x80, 0x10, 0]))),
-        (16, 0x9F8012, &[0], Err(Refused(1))),
-        (16, 0x9F8020, &[], Ok(None)),
+        Step::Object((2, RESOURCE_MANAGER, 1), 0x9F8011, &[], Ok(None)),
+        Step::Object((2, RESOURCE_MANAGER, 16), 0x9F8011, &[], CHANGED),
+        Step::Object((2, RESOURCE_MANAGER, 16), 0x9F8011, &[], Ok(None)),
+        Step::Object(
+            (2, RESOURCE_MANAGER, 16),
+            0x9F8012,
+            &[],
+            Ok(Some(&[0x9F, 0x80, 0x10, 0])),
+        ),
+        Step::Object((2, RESOURCE_MANAGER, 16), 0x9F8012, &[0], WRONG_LENGTH),
+        Step::Object((2, RESOURCE_MANAGER, 16), 0x9F8020, &[], Ok(None)),
+        Step::Closed((2, RESOURCE_MANAGER, 1)),
+        Step::Opened((2, RESOURCE_MANAGER, 1)),
+        Step::Object((2, RESOURCE_MANAGER, 1), 0x9F8011, &[], CHANGED),
     ];
 
     #[test]
     fn manager(rt: HostRuntime) {
-        let mut r = Manager::resource(&[RESOURCE_MANAGER, DATE_TIME]);
-        assert!(rt; greets(r.greeting(RESOURCE_MANAGER), &[0x9F, 0x80, 0x10, 0]));
-        r.opened(2, RESOURCE_MANAGER, 1);
-        r.opened(2, RESOURCE_MANAGER, 16);
-        for &(number, tag, body, expected) in MANAGER_OBJECTS {
-            assert_eq!(rt;
-                said(&r.object(2, RESOURCE_MANAGER, number, Apdu { tag, body })),
-                expected
-            );
-        }
-        r.closed(2, RESOURCE_MANAGER, 1);
-        r.opened(2, RESOURCE_MANAGER, 1);
-        let first = r.object(
-            2,
-            RESOURCE_MANAGER,
-            1,
-            Apdu {
-                tag: 0x9F8011,
-                body: &[],
-            },
-        );
-        assert_eq!(rt; said(&first), Ok(Some([0x9F, 0x80, 0x12, 0].as_slice())));
+        let resource = Manager::resource(&[RESOURCE_MANAGER, DATE_TIME]);
+        play(&rt, resource, PROFILES);
     }
 
-    const INFORMATION_OBJECTS: &[(u32, &'static [u8], Answer<'static>)] = &[
-        (0x9F8021, &[1, 2, 3, 4, 5, 2, 0x48, 0x69], Ok(None)),
-        (0x9F8021, &[1, 2, 3, 4, 5, 2, 0x48], Err(Refused(1))),
-        (0x9F8021, &[1, 2, 3, 4, 5], Err(Refused(1))),
-        (0x9F8020, &[], Ok(None)),
+    const SIXTEEN: &[Step<'static>] = &[
+        Step::Opened((0, RESOURCE_MANAGER, 1)),
+        Step::Object(
+            (0, RESOURCE_MANAGER, 1),
+            0x9F8010,
+            &[],
+            Ok(Some(&[
+                0x9F, 0x80, 0x11, 64, 0, 0x24, 0, 0x41, 0, 0x24, 0, 0x41, 0, 0x24, 0, 0x41, 0,
+                0x24, 0, 0x41, 0, 0x24, 0, 0x41, 0, 0x24, 0, 0x41, 0, 0x24, 0, 0x41, 0, 0x24, 0,
+                0x41, 0, 0x24, 0, 0x41, 0, 0x24, 0, 0x41, 0, 0x24, 0, 0x41, 0, 0x24, 0, 0x41, 0,
+                0x24, 0, 0x41, 0, 0x24, 0, 0x41, 0, 0x24, 0, 0x41, 0, 0x24, 0, 0x41,
+            ])),
+        ),
+    ];
+
+    const NONE: &[Step<'static>] = &[
+        Step::Opened((0, RESOURCE_MANAGER, 1)),
+        Step::Object(
+            (0, RESOURCE_MANAGER, 1),
+            0x9F8010,
+            &[],
+            Ok(Some(&[0x9F, 0x80, 0x11, 0])),
+        ),
     ];
 
     #[test]
-    fn information(rt: HostRuntime) {
-        let mut r = Information::resource();
-        assert!(rt; greets(r.greeting(APPLICATION_INFORMATION), &[0x9F, 0x80, 0x20, 0]));
-        r.opened(1, APPLICATION_INFORMATION, 3);
-        for &(tag, body, expected) in INFORMATION_OBJECTS {
-            assert_eq!(rt;
-                said(&r.object(1, APPLICATION_INFORMATION, 3, Apdu { tag, body })),
-                expected
-            );
-        }
-        r.closed(1, APPLICATION_INFORMATION, 3);
-        assert_eq!(rt;
-            r.kind().kept(1),
-            Some([1, 2, 3, 4, 5, 2, 0x48, 0x69].as_slice())
-        );
-        assert!(rt; r.kind().kept(0).is_none());
-        assert!(rt; r.kind().kept(4).is_none());
-        r.gone(1);
-        assert!(rt; r.kind().kept(1).is_none());
+    fn announces_sixteen_at_most(rt: HostRuntime) {
+        play(&rt, Manager::resource(&[DATE_TIME; 17]), SIXTEEN);
+        play(&rt, Manager::resource(&[]), NONE);
     }
 
-    fn reply_length(got: Result<Option<Piece>, Refused>) -> usize {
-        got.ok().flatten().map_or(0, |piece| piece.bytes().len())
+    const HI: &[u8] = &[1, 2, 3, 4, 5, 2, 0x48, 0x69];
+
+    const TOLD: &[Step<'static>] = &[
+        Step::Greeting(APPLICATION_INFORMATION, Some(&[0x9F, 0x80, 0x20, 0])),
+        Step::Opened((1, APPLICATION_INFORMATION, 3)),
+        Step::Object((1, APPLICATION_INFORMATION, 3), 0x9F8021, HI, Ok(None)),
+        Step::Object(
+            (1, APPLICATION_INFORMATION, 3),
+            0x9F8021,
+            &[1, 2, 3, 4, 5, 2, 0x48],
+            WRONG_LENGTH,
+        ),
+        Step::Object(
+            (1, APPLICATION_INFORMATION, 3),
+            0x9F8021,
+            &[1, 2, 3, 4, 5],
+            WRONG_LENGTH,
+        ),
+        Step::Object((1, APPLICATION_INFORMATION, 3), 0x9F8020, &[], Ok(None)),
+        Step::Closed((1, APPLICATION_INFORMATION, 3)),
+    ];
+
+    const TOLD_AND_GONE: &[Step<'static>] = &[
+        Step::Opened((1, APPLICATION_INFORMATION, 3)),
+        Step::Object((1, APPLICATION_INFORMATION, 3), 0x9F8021, HI, Ok(None)),
+        Step::Closed((1, APPLICATION_INFORMATION, 3)),
+        Step::Gone(1),
+    ];
+
+    const LONGEST: &[Step<'static>] = &[
+        Step::Opened((0, APPLICATION_INFORMATION, 1)),
+        Step::Object(
+            (0, APPLICATION_INFORMATION, 1),
+            0x9F8021,
+            &[0xFF; 261],
+            Ok(None),
+        ),
+    ];
+
+    // What is kept for a slot.
+    type Kept<'a> = (u8, Option<&'a [u8]>);
+
+    fn keeps(rt: &impl Abort, information: &Information, kept: &[Kept<'_>]) {
+        for &(slot, expected) in kept {
+            assert!(rt; information.kept(slot) == expected, "slot {slot}");
+        }
     }
+
+    // Plays the steps on a new resource, and holds what it keeps against the table.
+    fn inform(rt: &impl Abort, steps: &[Step<'_>], kept: &[Kept<'_>]) {
+        let mut resource = Information::resource();
+        play_on(rt, &mut resource, steps);
+        keeps(rt, resource.kind(), kept);
+    }
+
+    const KEPT: &[Kept<'static>] = &[(0, None), (1, Some(HI)), (2, None), (3, None), (4, None)];
+
+    const FORGOTTEN: &[Kept<'static>] = &[(1, None)];
+
+    const LONGEST_KEPT: &[Kept<'static>] = &[(0, Some(&[0xFF; 261])), (1, None)];
 
     #[test]
-    fn limits(rt: HostRuntime) {
-        let asks: Apdu<&[u8]> = Apdu {
-            tag: 0x9F8010,
-            body: &[],
-        };
-        let mut many = Manager::resource(&[DATE_TIME; 17]);
-        many.opened(0, RESOURCE_MANAGER, 1);
-        assert_eq!(rt; reply_length(many.object(0, RESOURCE_MANAGER, 1, asks)), 68);
-        let mut none = Manager::resource(&[]);
-        none.opened(0, RESOURCE_MANAGER, 1);
-        assert_eq!(rt; reply_length(none.object(0, RESOURCE_MANAGER, 1, asks)), 4);
-        let mut r = Information::resource();
-        r.opened(0, APPLICATION_INFORMATION, 1);
-        let longest: Apdu<&[u8]> = Apdu {
-            tag: 0x9F8021,
-            body: &[0xFF; 261],
-        };
-        let answer = r.object(0, APPLICATION_INFORMATION, 1, longest);
-        assert_eq!(rt; said(&answer), Ok(None));
-        assert!(rt;
-            r.kind()
-                .kept(0)
-                .is_some_and(|body| body == [0xFF; 261].as_slice())
-        );
+    fn information(rt: HostRuntime) {
+        inform(&rt, TOLD, KEPT);
+        inform(&rt, TOLD_AND_GONE, FORGOTTEN);
+        inform(&rt, LONGEST, LONGEST_KEPT);
     }
+
+    const UNDER_A_QUOTA: &[Step<'static>] = &[
+        Step::Find(0x00020050, Some(APPLICATION_INFORMATION)),
+        // Listed, not listed, and in a slot that there is not.
+        Step::Ready(0, DATE_TIME, 0),
+        Step::Ready(0, 0x00240042, 0xF1),
+        Step::Ready(4, DATE_TIME, 0xF1),
+        Step::Opened((0, RESOURCE_MANAGER, 0)),
+        Step::Opened((0, RESOURCE_MANAGER, 17)),
+        Step::Opened((4, RESOURCE_MANAGER, 1)),
+        Step::Count(0, 0),
+        Step::Opened((0, RESOURCE_MANAGER, 1)),
+        Step::Opened((0, RESOURCE_MANAGER, 1)),
+        Step::Count(0, 1),
+        Step::Opened((0, DATE_TIME, 2)),
+        Step::Closed((0, RESOURCE_MANAGER, 2)),
+        Step::Count(0, 2),
+        // As many as the quota, in slot 0 alone, and none when the module is gone.
+        Step::Ready(0, APPLICATION_INFORMATION, 0xF3),
+        Step::Ready(1, APPLICATION_INFORMATION, 0),
+        Step::Gone(0),
+        Step::Count(0, 0),
+        Step::Ready(0, APPLICATION_INFORMATION, 0),
+    ];
 
     #[test]
     fn all_under_a_quota(rt: HostRuntime) {
-        let mut r = standard(2, &THREE);
-        assert_eq!(rt; r.find(0x00020050), Some(APPLICATION_INFORMATION));
-        // Listed, not listed, and in a slot that there is not.
-        let ready = [
-            u8::from(r.ready(0, DATE_TIME)),
-            u8::from(r.ready(0, 0x00240042)),
-            u8::from(r.ready(4, DATE_TIME)),
-        ];
-        assert!(rt; ready == [0, 0xF1, 0xF1]);
-        for (slot, number) in [(0, 0), (0, 17), (4, 1)] {
-            r.opened(slot, RESOURCE_MANAGER, number);
-        }
-        let none = r.count(0);
-        r.opened(0, RESOURCE_MANAGER, 1);
-        r.opened(0, RESOURCE_MANAGER, 1);
-        let one = r.count(0);
-        r.opened(0, DATE_TIME, 2);
-        r.closed(0, RESOURCE_MANAGER, 2);
-        assert!(rt; [none, one, r.count(0)] == [0, 1, 2]);
-        // As many as the quota, in slot 0 alone, and none when the module is gone.
-        let full = [
-            u8::from(r.ready(0, APPLICATION_INFORMATION)),
-            u8::from(r.ready(1, APPLICATION_INFORMATION)),
-        ];
-        assert!(rt; full == [0xF3, 0]);
-        r.gone(0);
-        assert_eq!(rt; r.count(0), 0);
-        assert_eq!(rt; u8::from(r.ready(0, APPLICATION_INFORMATION)), 0);
+        play(&rt, standard(2, &THREE), UNDER_A_QUOTA);
     }
 }
