@@ -49,7 +49,11 @@ impl Slot {
         Place::new(&mut self.kept, resource, at.get()).plug(size)
     }
 
-    pub(crate) fn pull<R: Resource>(&mut self, resource: &mut R, at: SlotNumber) -> Result<(), Refusal>
+    pub(crate) fn pull<R: Resource>(
+        &mut self,
+        resource: &mut R,
+        at: SlotNumber,
+    ) -> Result<(), Refusal>
         ensures { Did R.Resource.meaning at.number pulls (plainly result) self.old.kept resource.old self.new.kept resource.new }
     {
         Place::new(&mut self.kept, resource, at.get()).pull()

@@ -28,7 +28,12 @@ impl<R: Resource + Drop> Desk<R> {
 
 impl<R: Resource> Desk<R> {
     // Any call.
-    pub(crate) fn call(&mut self, call: Call, lpdu: &[u8], out: &mut [u8]) -> Result<Answer, Refusal>
+    pub(crate) fn call(
+        &mut self,
+        call: Call,
+        lpdu: &[u8],
+        out: &mut [u8],
+    ) -> Result<Answer, Refusal>
         requires { Tied self.old }
         ensures played { Played R.Resource.meaning (call_of call lpdu.now (length out.old)) result out.old out.new self.old.host self.new.host }
         ensures tied { Tied self.new }
