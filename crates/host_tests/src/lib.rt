@@ -8,7 +8,8 @@ mod tests {
     use player::{Answer, Call, Entry};
     use protocol::{Row, State};
     use refusal::Refusal;
-    use standard::{RESOURCE_MANAGER, THREE, Three, three};
+    use resource::Resource;
+    use standard::{RESOURCE_MANAGER, THREE, three};
     use std::alloc::{AllocError, Global};
     use std::process::Abort;
     use std::test::Fail;
@@ -94,7 +95,7 @@ mod tests {
     }
 
     // Whether the player shows so.
-    fn shows(player: &mut Player<Three>, look: Look<'_>) -> bool {
+    fn shows<R: Resource>(player: &mut Player<R>, look: Look<'_>) -> bool {
         let host = player.host();
         match look {
             Look::Size(slot, size) => host.size(slot) == size,
@@ -112,21 +113,31 @@ mod tests {
         }
     }
 
-    // Plays the steps on a new host, and holds each answer, and then each look, against its table.
-    fn play(
+    // Plays the steps on a new host over a resource, and holds each answer, and then each look, against its table.
+    fn play_over<R: Resource + Drop>(
         rt: &impl Abort,
         alloc: Global,
+        resource: R,
         steps: &[Step<'_>],
         looks: &[Look<'_>],
     ) -> Result<(), Fail> {
         let mut entries = entries(alloc, steps)?;
-        let mut player = Player::play(three(&THREE), entries.as_mut_slice());
+        let mut player = Player::play(resource, entries.as_mut_slice());
         answers(rt, entries.as_slice(), steps);
         for (i, look) in looks.iter().enumerate() {
             assert!(rt; shows(&mut player, *look), "look {i}");
         }
         player.finish();
         Ok(())
+    }
+
+    fn play(
+        rt: &impl Abort,
+        alloc: Global,
+        steps: &[Step<'_>],
+        looks: &[Look<'_>],
+    ) -> Result<(), Fail> {
+        play_over(rt, alloc, three(&THREE), steps, looks)
     }
 
     const JUST_OPENED: Option<Row> = Some(Row {
