@@ -4,6 +4,7 @@
 use host::turn::host::Host;
 use host::turn::{Fed, Next};
 use refusal::Refusal;
+use resource::Resource;
 use standard::{THREE, Three, three};
 use std::mem::size_of;
 use std::{env, io};
@@ -52,16 +53,16 @@ impl Order {
 }
 
 #[derive(Drop)]
-struct Bench {
-    host: Host<Three>,
+struct Bench<R> {
+    host: Host<R>,
     exchanges: u64,
     written: u64,
 }
 
-impl Bench {
-    fn new() -> Bench {
+impl<R: Resource> Bench<R> {
+    fn new(resource: R) -> Bench<R> {
         Bench {
-            host: Host::new(three(&THREE)),
+            host: Host::new(resource),
             exchanges: 0,
             written: 0,
         }
@@ -144,15 +145,21 @@ fn help(rt: &HostRuntime) -> io::Result<()> {
     )
 }
 
-fn told(rt: &HostRuntime, order: Order) -> io::Result<()> {
-    let mut bench = Bench::new();
+// `memory` is what a host over the resource takes.
+fn told<R: Resource + Drop>(
+    rt: &HostRuntime,
+    resource: R,
+    memory: usize,
+    order: Order,
+) -> io::Result<()> {
+    let mut bench = Bench::new(resource);
     if let Err(refusal) = bench.run(order) {
         return println!(rt; "the host refused with {}", refusal.number());
     }
     println!(rt; "{} exchanges", bench.exchanges)?;
     println!(rt; "{} bytes written", bench.written)?;
     println!(rt; "{} sessions open at the end", bench.open_sessions())?;
-    println!(rt; "{} bytes of memory in a host", size_of::<Host<Three>>())
+    println!(rt; "{memory} bytes of memory in a host")
 }
 
 fn main(rt: HostRuntime) -> io::Result<()> {
@@ -161,7 +168,7 @@ fn main(rt: HostRuntime) -> io::Result<()> {
         return help(&rt);
     };
     match Order::read(work.as_str(), count.as_str(), open.as_str()) {
-        Some(order) => told(&rt, order),
+        Some(order) => told(&rt, three(&THREE), size_of::<Host<Three>>(), order),
         None => help(&rt),
     }
 }
