@@ -11,9 +11,9 @@ use piece::Piece;
 use protocol::{Owed, State};
 
 // The most bytes that are kept of a TPDU in fragments, and of an SPDU in several TPDUs.
-pub const FRAGMENTS: usize = 1024;
+const FRAGMENTS: usize = 1024;
 
-pub const DATA: usize = 2048;
+const DATA: usize = 2048;
 
 // What becomes of a connection.
 #[derive(Clone, Copy)]
@@ -106,7 +106,7 @@ impl Connection {
         self.chained.as_slice()
     }
 
-    #[inline]
+    #[inline(always)]
     pub(crate) fn change(&mut self, change: Change)
         ensures { conn_of self.new ≡ changed change (conn_of self.old) }
     {

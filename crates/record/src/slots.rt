@@ -86,7 +86,7 @@ impl Record {
         self.rows[n.get() as usize - 1] = row;
     }
 
-    #[inline]
+    #[inline(always)]
     #[tactic(auto, using(crate::proofs::Rows::line_write))]
     pub fn change(&mut self, c: ConnectionId, change: Change)
         ensures { slot_of self.new ≡ alter c.number (changed change) (slot_of self.old) }

@@ -32,7 +32,7 @@ use tpdu::{Command, write_command};
 
 // The command that is due.
 #[derive(Clone, Copy)]
-pub enum Due {
+enum Due {
     Create,
     Delete,
     DeleteReply,

@@ -26,14 +26,14 @@ use spdu::{Reply, Request, SpduReader};
 
 // The statuses of an open_session_response that are told before the resource is asked; the others are those of `Readiness`.
 #[derive(Clone, Copy)]
-pub enum OpenStatus {
+enum OpenStatus {
     NoResource = 0xF0,
     VersionLower = 0xF2,
 }
 
 // The statuses of a close_session_response.
 #[derive(Clone, Copy)]
-pub enum CloseStatus {
+enum CloseStatus {
     Closed = 0x00,
     NotOpen = 0xF0,
 }
