@@ -1,11 +1,10 @@
 // Runs exchanges between a host and a scripted module in memory, and prints what it counted. `tools/measure` counts the instructions of a run.
 #![tactic(auto)]
 
-use host::turn::host::Host;
-use host::turn::{Fed, Next};
-use refusal::Refusal;
+use host::{FeedOutcome, Host, NextCommand};
+use protocol::Refusal;
 use resource::Resource;
-use standard::{THREE, Three, three};
+use standard::{STANDARD_IDENTIFIERS, StandardResources, standard_resources};
 use std::mem::size_of;
 use std::{env, io};
 
@@ -70,19 +69,19 @@ impl<R: Resource> Bench<R> {
 
     // The command that is due goes out, and the module answers it.
     fn exchange(&mut self, out: &mut [u8], answer: &[u8]) -> Result<(), Refusal> {
-        let Next { length, turn } = self.host.next(0, 1, out)?;
+        let NextCommand { length, turn } = self.host.next(0, 1, out)?;
         self.exchanges = self.exchanges.wrapping_add(1);
         self.written = self.written.wrapping_add(length as u64);
         let Some(turn) = turn else {
             return Ok(());
         };
         match self.host.feed(turn, answer) {
-            Fed::Done => Ok(()),
-            Fed::More(turn) => {
+            FeedOutcome::Done => Ok(()),
+            FeedOutcome::More(turn) => {
                 self.host.expire(turn);
                 Ok(())
             }
-            Fed::Refused(turn, refusal) => {
+            FeedOutcome::Refused(turn, refusal) => {
                 self.host.expire(turn);
                 Err(refusal)
             }
@@ -146,7 +145,7 @@ fn help(rt: &HostRuntime) -> io::Result<()> {
 }
 
 // `memory` is what a host over the resource takes.
-fn told<R: Resource + Drop>(
+fn run_and_report<R: Resource + Drop>(
     rt: &HostRuntime,
     resource: R,
     memory: usize,
@@ -168,7 +167,12 @@ fn main(rt: HostRuntime) -> io::Result<()> {
         return help(&rt);
     };
     match Order::read(work.as_str(), count.as_str(), open.as_str()) {
-        Some(order) => told(&rt, three(&THREE), size_of::<Host<Three>>(), order),
+        Some(order) => run_and_report(
+            &rt,
+            standard_resources(&STANDARD_IDENTIFIERS),
+            size_of::<Host<StandardResources>>(),
+            order,
+        ),
         None => help(&rt),
     }
 }

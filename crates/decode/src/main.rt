@@ -3,27 +3,22 @@
 
 ghost use Rattle.std.specs.Prelude.{◌≤◌};
 
-use cursor::Part;
-use joiner::Kept;
-use lpdu::{Fragment, LpduReader};
-use recording::{Direction, LONGEST, Line, LineError, parse};
+use recording::{Direction, LONGEST_LINE, PartialUnit, RecordingLine, parse_line};
 use std::alloc::{AllocError, Global};
-use std::io::{BufReader, Read};
 use std::{array, env, io};
+use text::{LineError, Lines};
+use wire::{Fragment, LpduReader, Part};
 
 mod show;
 
 // The most bytes that are kept of a TPDU in fragments, and of an SPDU in several TPDUs.
-const FRAGMENTS: usize = 1024;
+const TPDU_LIMIT: usize = 1024;
 
-const CHAINED: usize = 2048;
-
-// How much of a line is kept: beside the longest a carriage return, and one byte more, so that what is too long stays so.
-const KEPT: usize = LONGEST + 2;
+const SPDU_LIMIT: usize = 2048;
 
 // Where an LPDU goes: the slot, who sent it, and the connection.
 #[derive(Clone, Copy)]
-pub(crate) struct Way {
+pub(crate) struct Route {
     slot: u8,
     sender: Direction,
     connection: u8,
@@ -32,9 +27,9 @@ pub(crate) struct Way {
 // What is kept on a connection: a TPDU of each sender in fragments, and an SPDU of the module in several TPDUs.
 #[derive(Drop)]
 struct Pending {
-    host: Kept,
-    module: Kept,
-    chain: Kept,
+    host: PartialUnit,
+    module: PartialUnit,
+    chain: PartialUnit,
 }
 
 // What is known at a line: the slot, and what is kept by slot and connection.
@@ -49,13 +44,18 @@ struct Decoder {
 impl Pending {
     fn new(heap: Global) -> Pending {
         Pending {
-            host: Kept::new(heap, FRAGMENTS),
-            module: Kept::new(heap, FRAGMENTS),
-            chain: Kept::new(heap, CHAINED),
+            host: PartialUnit::new(heap, TPDU_LIMIT),
+            module: PartialUnit::new(heap, TPDU_LIMIT),
+            chain: PartialUnit::new(heap, SPDU_LIMIT),
         }
     }
 
-    fn join(&mut self, rt: &HostRuntime, way: Way, fragment: Fragment<Part<'_>>) -> io::Result<()> {
+    fn join(
+        &mut self,
+        rt: &HostRuntime,
+        way: Route,
+        fragment: Fragment<Part<'_>>,
+    ) -> io::Result<()> {
         let Pending {
             host,
             module,
@@ -69,18 +69,17 @@ impl Pending {
 }
 
 // Joins a fragment to those before it. A whole TPDU is told.
-// `kept` and `chain` are two parameters: the borrow check takes no choice between `host` and `module` that stands beside `chain` in one struct.
 fn join(
     rt: &HostRuntime,
-    way: Way,
+    way: Route,
     fragment: Fragment<Part<'_>>,
-    kept: &mut Kept,
-    chain: &mut Kept,
+    kept: &mut PartialUnit,
+    chain: &mut PartialUnit,
 ) -> io::Result<()> {
     let told = match kept.add(fragment.bytes.bytes) {
         Ok(()) if fragment.more => Ok(()),
         Ok(()) => show::tpdu(rt, way, kept.bytes(), chain),
-        Err(refusal) => show::refused(rt, refusal, "TPDU", FRAGMENTS),
+        Err(refusal) => show::show_dropped(rt, refusal, "TPDU", TPDU_LIMIT),
     };
     if !fragment.more {
         kept.clear();
@@ -100,13 +99,13 @@ impl Decoder {
 
     fn line(&mut self, rt: &HostRuntime, line: &[u8]) -> io::Result<()> {
         self.line = self.line.saturating_add(1);
-        match parse(line.strip_suffix(b"\r").unwrap_or(line), &mut self.bytes) {
-            Ok(Line::Blank) => Ok(()),
-            Ok(Line::Slot(slot)) => {
+        match parse_line(line.strip_suffix(b"\r").unwrap_or(line), &mut self.bytes) {
+            Ok(RecordingLine::Blank) => Ok(()),
+            Ok(RecordingLine::Slot(slot)) => {
                 self.slot = slot;
                 Ok(())
             }
-            Ok(Line::Lpdu(sender)) => self.lpdu(rt, sender),
+            Ok(RecordingLine::Lpdu(sender)) => self.lpdu(rt, sender),
             Err(LineError::Bad(reason)) => println!(rt; "line {}: {reason}", self.line),
             Err(LineError::Memory) => Err(io::Error::from(AllocError)),
         }
@@ -114,7 +113,7 @@ impl Decoder {
 
     fn lpdu(&mut self, rt: &HostRuntime, sender: Direction) -> io::Result<()> {
         let bytes = self.bytes.as_slice();
-        let way = Way {
+        let way = Route {
             slot: self.slot,
             sender,
             connection: connection(bytes),
@@ -152,22 +151,13 @@ fn help(rt: &HostRuntime) -> io::Result<()> {
     println!(rt; "  # ..                a comment; blank lines are passed over too")
 }
 
+// A carriage return at the end of the longest line is read too.
 fn decode(rt: &HostRuntime) -> io::Result<()> {
     let mut decoder = Decoder::new(rt.alloc());
-    let mut line = Vec::new(rt.alloc());
-    for byte in BufReader::new(rt.alloc(), rt.stdin())?.bytes() {
-        let byte = byte?;
-        if byte == b'\n' {
-            decoder.line(rt, line.as_slice())?;
-            line.clear();
-        } else if line.len() < KEPT {
-            line.push(byte)?;
-        }
+    for line in Lines::new(rt.alloc(), rt.stdin(), LONGEST_LINE + 1)? {
+        decoder.line(rt, line?.as_slice())?;
     }
-    if line.is_empty() {
-        return Ok(());
-    }
-    decoder.line(rt, line.as_slice())
+    Ok(())
 }
 
 fn main(rt: HostRuntime) -> io::Result<()> {

@@ -1,22 +1,18 @@
 // Prints what an LPDU, a TPDU, an SPDU and an APDU say, one line each.
-use crate::{CHAINED, Way};
-use account::{HexByte, HexWord};
-use apdu::ApduReader;
-use cursor::Part;
-use cursor::fault::LinkFault;
-use joiner::{Kept, Refusal};
-use lpdu::Fragment;
-use recording::Direction;
-use spdu::{Reply, Request, SpduReader};
+use crate::{Route, SPDU_LIMIT};
+use recording::{Direction, JoinError, PartialUnit, names};
 use std::alloc::AllocError;
 use std::{fmt, io};
-use tpdu::{Command, Object, Response, TpduReader};
+use wire::{
+    ApduReader, Command, Fragment, LinkFault, Part, Response, ResponseObject, SessionReply,
+    SessionRequest, SpduReader, TpduReader, spdu, tpdu,
+};
 
 // How many bytes.
 #[derive(Clone, Copy)]
-struct Size(usize);
+struct ByteCount(usize);
 
-impl fmt::Display for Size {
+impl fmt::Display for ByteCount {
     fn fmt<W: fmt::Write>(&self, f: &mut fmt::Formatter<W>) -> fmt::Result {
         match self.0 {
             1 => f.write_str("1 byte"),
@@ -36,7 +32,7 @@ impl fmt::Display for Status {
     fn fmt<W: fmt::Write>(&self, f: &mut fmt::Formatter<W>) -> fmt::Result {
         match self.meaning {
             Some(meaning) => f.write_str(meaning),
-            None => write!(f, "status {}", HexByte(self.code)),
+            None => write!(f, "status {:02X}", self.code),
         }
     }
 }
@@ -47,8 +43,8 @@ struct Identifier(u32);
 
 impl fmt::Display for Identifier {
     fn fmt<W: fmt::Write>(&self, f: &mut fmt::Formatter<W>) -> fmt::Result {
-        write!(f, "{}", HexWord(self.0))?;
-        match account::resource(self.0) {
+        write!(f, "{:08X}", self.0)?;
+        match names::resource_name(self.0) {
             Some(name) => write!(f, " {name}"),
             None => Ok(()),
         }
@@ -58,7 +54,7 @@ impl fmt::Display for Identifier {
 // An LPDU, or what is wrong with it.
 pub(crate) fn link(
     rt: &HostRuntime,
-    way: Way,
+    way: Route,
     length: usize,
     read: Result<Fragment<Part<'_>>, LinkFault>,
 ) -> io::Result<()> {
@@ -66,36 +62,41 @@ pub(crate) fn link(
     match read {
         Ok(fragment) => {
             let mark = if fragment.more { "more" } else { "last" };
-            let size = Size(fragment.bytes.bytes.len());
+            let size = ByteCount(fragment.bytes.bytes.len());
             println!(rt; ", connection {}, {mark}, {size}", way.connection)
         }
-        Err(fault) => println!(rt; ", {}\n  link: {fault}", Size(length)),
+        Err(fault) => println!(rt; ", {}\n  link: {fault}", ByteCount(length)),
     }
 }
 
-// A unit that is not kept.
-pub(crate) fn refused(
+// A unit that is dropped; an error where there was no memory for it.
+pub(crate) fn show_dropped(
     rt: &HostRuntime,
-    refusal: Refusal,
+    refusal: JoinError,
     unit: &str,
     limit: usize,
 ) -> io::Result<()> {
     match refusal {
-        Refusal::Limit => println!(rt; "  {unit} dropped: longer than {limit} bytes"),
-        Refusal::Memory => Err(io::Error::from(AllocError)),
+        JoinError::Limit => println!(rt; "  {unit} dropped: longer than {limit} bytes"),
+        JoinError::Memory => Err(io::Error::from(AllocError)),
     }
 }
 
 // A TPDU. Data of the module with more to follow are chained.
-pub(crate) fn tpdu(rt: &HostRuntime, way: Way, tpdu: &[u8], chain: &mut Kept) -> io::Result<()> {
+pub(crate) fn tpdu(
+    rt: &HostRuntime,
+    way: Route,
+    tpdu: &[u8],
+    chain: &mut PartialUnit,
+) -> io::Result<()> {
     let reader = TpduReader::new(tpdu);
     let fault = match way.sender {
         Direction::FromHost => match reader.command(way.connection) {
-            Ok(command) => return order(rt, command),
+            Ok(command) => return show_command(rt, command),
             Err(fault) => fault,
         },
         Direction::FromModule => match reader.response(way.connection) {
-            Ok(response) => return answer(rt, response, chain),
+            Ok(response) => return show_response(rt, response, chain),
             Err(fault) => fault,
         },
     };
@@ -115,73 +116,80 @@ fn command_tag(command: &Command<Part<'_>>) -> u8 {
     }
 }
 
-fn order(rt: &HostRuntime, command: Command<Part<'_>>) -> io::Result<()> {
-    print!(rt; "  {}", account::transport(command_tag(&command)))?;
+fn show_command(rt: &HostRuntime, command: Command<Part<'_>>) -> io::Result<()> {
+    print!(rt; "  {}", names::tpdu_name(command_tag(&command)))?;
     match command {
         Command::Create | Command::Delete | Command::DeleteReply | Command::Receive => {
             println!(rt; "")
         }
         Command::NewConnection(new) => println!(rt; ", connection {new}"),
-        Command::Error(code) => println!(rt; ", code {}", HexByte(code)),
-        Command::Data(data) => sent(rt, data.bytes),
+        Command::Error(code) => println!(rt; ", code {code:02X}"),
+        Command::Data(data) => show_host_data(rt, data.bytes),
     }
 }
 
 // Data of the host.
-fn sent(rt: &HostRuntime, data: &[u8]) -> io::Result<()> {
+fn show_host_data(rt: &HostRuntime, data: &[u8]) -> io::Result<()> {
     if data.is_empty() {
         return println!(rt; ", empty (a poll)");
     }
-    println!(rt; ", {}", Size(data.len()))?;
+    println!(rt; ", {}", ByteCount(data.len()))?;
     reply(rt, data)
 }
 
 // The tag of what the module sends.
-fn object_tag(object: &Object<Part<'_>>) -> u8 {
+fn object_tag(object: &ResponseObject<Part<'_>>) -> u8 {
     match object {
-        Object::Nothing => tpdu::SB,
-        Object::CreateReply => tpdu::C_T_C_REPLY,
-        Object::Delete => tpdu::DELETE_T_C,
-        Object::DeleteReply => tpdu::D_T_C_REPLY,
-        Object::Request => tpdu::REQUEST_T_C,
-        Object::More(_) => tpdu::T_DATA_MORE,
-        Object::Last(_) => tpdu::T_DATA_LAST,
+        ResponseObject::Nothing => tpdu::SB,
+        ResponseObject::CreateReply => tpdu::C_T_C_REPLY,
+        ResponseObject::Delete => tpdu::DELETE_T_C,
+        ResponseObject::DeleteReply => tpdu::D_T_C_REPLY,
+        ResponseObject::RequestConnection => tpdu::REQUEST_T_C,
+        ResponseObject::DataMore(_) => tpdu::T_DATA_MORE,
+        ResponseObject::DataLast(_) => tpdu::T_DATA_LAST,
     }
 }
 
-fn answer(rt: &HostRuntime, response: Response<Part<'_>>, chain: &mut Kept) -> io::Result<()> {
-    print!(rt; "  {}", account::transport(object_tag(&response.object)))?;
-    if let Object::More(data) | Object::Last(data) = response.object {
+fn show_response(
+    rt: &HostRuntime,
+    response: Response<Part<'_>>,
+    chain: &mut PartialUnit,
+) -> io::Result<()> {
+    print!(rt; "  {}", names::tpdu_name(object_tag(&response.object)))?;
+    if let ResponseObject::DataMore(data) | ResponseObject::DataLast(data) = response.object {
         match data.bytes.len() {
             0 => print!(rt; ", empty")?,
-            n => print!(rt; ", {}", Size(n))?,
+            n => print!(rt; ", {}", ByteCount(n))?,
         }
     }
     println!(rt; ", DA {}", response.available as u8)?;
     match response.object {
-        Object::Nothing | Object::Delete | Object::DeleteReply | Object::Request => Ok(()),
-        Object::CreateReply => {
+        ResponseObject::Nothing
+        | ResponseObject::Delete
+        | ResponseObject::DeleteReply
+        | ResponseObject::RequestConnection => Ok(()),
+        ResponseObject::CreateReply => {
             chain.clear();
             Ok(())
         }
-        Object::More(data) => more(rt, data.bytes, chain),
-        Object::Last(data) => last(rt, data.bytes, chain),
+        ResponseObject::DataMore(data) => more(rt, data.bytes, chain),
+        ResponseObject::DataLast(data) => last(rt, data.bytes, chain),
     }
 }
 
 // Data of the module with more to follow.
-fn more(rt: &HostRuntime, data: &[u8], chain: &mut Kept) -> io::Result<()> {
+fn more(rt: &HostRuntime, data: &[u8], chain: &mut PartialUnit) -> io::Result<()> {
     chain
         .add(data)
-        .or_else(|refusal| refused(rt, refusal, "SPDU", CHAINED))
+        .or_else(|refusal| show_dropped(rt, refusal, "SPDU", SPDU_LIMIT))
 }
 
 // Data of the module that end an SPDU, unless there are none of it.
-fn last(rt: &HostRuntime, data: &[u8], chain: &mut Kept) -> io::Result<()> {
+fn last(rt: &HostRuntime, data: &[u8], chain: &mut PartialUnit) -> io::Result<()> {
     let told = match chain.add(data) {
         Ok(()) if chain.bytes().is_empty() => Ok(()),
         Ok(()) => request(rt, chain.bytes()),
-        Err(refusal) => refused(rt, refusal, "SPDU", CHAINED),
+        Err(refusal) => show_dropped(rt, refusal, "SPDU", SPDU_LIMIT),
     };
     chain.clear();
     told
@@ -190,16 +198,16 @@ fn last(rt: &HostRuntime, data: &[u8], chain: &mut Kept) -> io::Result<()> {
 // An SPDU of the module.
 fn request(rt: &HostRuntime, spdu: &[u8]) -> io::Result<()> {
     match SpduReader::new(spdu).request() {
-        Ok(Request::Open(identifier)) => println!(rt;
+        Ok(SessionRequest::Open(identifier)) => println!(rt;
             "    {}, {}",
-            account::session(spdu::OPEN_SESSION_REQUEST),
+            names::spdu_name(spdu::OPEN_SESSION_REQUEST),
             Identifier(identifier)
         ),
-        Ok(Request::Close(number)) => println!(rt;
+        Ok(SessionRequest::Close(number)) => println!(rt;
             "    {}, session {number}",
-            account::session(spdu::CLOSE_SESSION_REQUEST)
+            names::spdu_name(spdu::CLOSE_SESSION_REQUEST)
         ),
-        Ok(Request::Data(number, body)) => numbered(rt, number, body.bytes),
+        Ok(SessionRequest::Data(number, body)) => show_session_data(rt, number, body.bytes),
         Err(fault) => println!(rt; "    session: {}", fault.0),
     }
 }
@@ -207,39 +215,39 @@ fn request(rt: &HostRuntime, spdu: &[u8]) -> io::Result<()> {
 // An SPDU of the host.
 fn reply(rt: &HostRuntime, spdu: &[u8]) -> io::Result<()> {
     match SpduReader::new(spdu).reply() {
-        Ok(Reply::Opened(code, identifier, number)) => println!(rt;
+        Ok(SessionReply::OpenResponse(code, identifier, number)) => println!(rt;
             "    {}, {}, session {number}, {}",
-            account::session(spdu::OPEN_SESSION_RESPONSE),
+            names::spdu_name(spdu::OPEN_SESSION_RESPONSE),
             Status {
-                meaning: account::opening(code),
+                meaning: names::open_status_name(code),
                 code
             },
             Identifier(identifier)
         ),
-        Ok(Reply::Closed(code, number)) => println!(rt;
+        Ok(SessionReply::CloseResponse(code, number)) => println!(rt;
             "    {}, {}, session {number}",
-            account::session(spdu::CLOSE_SESSION_RESPONSE),
+            names::spdu_name(spdu::CLOSE_SESSION_RESPONSE),
             Status {
-                meaning: account::closing(code),
+                meaning: names::close_status_name(code),
                 code
             }
         ),
-        Ok(Reply::Data(number, body)) => numbered(rt, number, body.bytes),
+        Ok(SessionReply::Data(number, body)) => show_session_data(rt, number, body.bytes),
         Err(fault) => println!(rt; "    session: {}", fault.0),
     }
 }
 
 // An APDU in a session.
-fn numbered(rt: &HostRuntime, number: u16, body: &[u8]) -> io::Result<()> {
+fn show_session_data(rt: &HostRuntime, number: u16, body: &[u8]) -> io::Result<()> {
     println!(rt;
         "    {}, session {number}",
-        account::session(spdu::SESSION_NUMBER)
+        names::spdu_name(spdu::SESSION_NUMBER)
     )?;
     let object = match ApduReader::new(body).object() {
         Ok(object) => object,
         Err(fault) => return println!(rt; "      object: {}", fault.0),
     };
-    match account::object(object.tag) {
+    match names::apdu_name(object.tag) {
         Some(name) => print!(rt; "      {name}")?,
         None => print!(rt; "      tag {:06X}", object.tag)?,
     }
@@ -248,12 +256,12 @@ fn numbered(rt: &HostRuntime, number: u16, body: &[u8]) -> io::Result<()> {
 
 // How many bytes, and the first of them.
 fn contents(rt: &HostRuntime, bytes: &[u8]) -> io::Result<()> {
-    print!(rt; ", {}", Size(bytes.len()))?;
+    print!(rt; ", {}", ByteCount(bytes.len()))?;
     if !bytes.is_empty() {
         print!(rt; ":")?;
     }
     for byte in bytes.iter().take(8) {
-        print!(rt; " {}", HexByte(*byte))?;
+        print!(rt; " {byte:02X}")?;
     }
     if bytes.len() > 8 {
         print!(rt; " ..")?;

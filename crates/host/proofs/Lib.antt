@@ -1,3 +1,6 @@
-pub mod Called
-pub mod Handed
-pub mod Stays
+pub mod OneSlotCalled
+pub mod TurnHandedOut
+pub mod SlotStaysSound
+pub mod HeldTurns
+pub mod ListsGrow
+pub mod EntriesOfOneSlot

@@ -1,1 +1,5 @@
-pub mod View
+pub mod HostRefinement
+pub mod Calls
+pub mod TurnTables
+pub mod PlayerRefinement
+pub mod PlayedLists

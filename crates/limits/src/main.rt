@@ -1,9 +1,10 @@
-// The shelf's line form over one resource more, whose reply is as long as a resource may send: what the limits let pass, and what they refuse.
+// Answers calls by lines as the program `shelf` does, over one resource more, whose reply is as long as a resource may send.
 #![tactic(auto)]
 
-use layers::pair::Pair;
-use longest::Longest;
-use standard::{THREE, three};
+mod longest;
+
+use crate::longest::LongestReply;
+use standard::{Pair, STANDARD_IDENTIFIERS, standard_resources};
 use std::io;
 
 fn help(rt: &HostRuntime) -> io::Result<()> {
@@ -17,7 +18,10 @@ fn main(rt: HostRuntime) -> io::Result<()> {
     if console::asks_help(&rt)? {
         help(&rt)
     } else {
-        let resources = Pair::new(three(&THREE), Longest::resource());
+        let resources = Pair::new(
+            standard_resources(&STANDARD_IDENTIFIERS),
+            LongestReply::resource(),
+        );
         console::play(&rt, resources, rt.stdin())
     }
 }

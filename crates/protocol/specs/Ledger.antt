@@ -1,148 +1,151 @@
 -- The ledger: which sessions are open, kept from the calls alone and knowing nothing of the host.
-use Rattle.std.specs.Prelude.{ℕ, Bool, true, false, cond, List, [], ◌∷◌, ◌++◌, length, Some, None, Ok, Err, Option, Result, ◌==◌}
-use Rattle.cursor.specs.declared.fault.Fault.{Fault}
-use Rattle.cursor.specs.declared.fault.LinkFault.{LinkFault}
-use Rattle.cursor.specs.Reading.{Placed}
-use Rattle.lpdu.specs.declared.Fragment.{Fragment}
-use Rattle.lpdu.specs.Link.{read_fragment}
-use Rattle.tpdu.specs.declared.Object.{Object}
-use Rattle.tpdu.specs.declared.Object.TheVariants as obj
-use Rattle.tpdu.specs.declared.Response.{Response}
-use Rattle.tpdu.specs.Transport.{read_response}
-use Rattle.spdu.specs.declared.Request.{Request}
-use Rattle.spdu.specs.declared.Request.TheVariants as ask
-use Rattle.spdu.specs.Session.{read_request}
-use Rattle.resource.specs.Tables.{put}
-use Rattle.identifier.specs.Identifiers.{older}
-use Rattle.protocol.specs.Record.{free}
-use Rattle.protocol.specs.Calls.{Act, plug, pull, end, next, feed, expire}
+use Rattle.std.specs.Prelude.{ℕ, Bool, true, false, if◌then◌else◌, List, [], ◌∷◌, ◌++◌, length, Some, None, Ok, Err, Option, Result, ◌==◌}
+use Rattle.wire.specs.declared.fault.Fault.{Fault}
+use Rattle.wire.specs.declared.fault.LinkFault.{LinkFault}
+use Rattle.wire.specs.Reading.{Located}
+use Rattle.wire.specs.declared.lpdu.Fragment.{Fragment}
+use Rattle.wire.specs.LpduReading.{read_fragment}
+use Rattle.wire.specs.declared.tpdu.ResponseObject.{ResponseObject}
+use Rattle.wire.specs.declared.tpdu.ResponseObject.TheVariants as obj
+use Rattle.wire.specs.declared.tpdu.Response.{Response}
+use Rattle.wire.specs.TpduReading.{read_response}
+use Rattle.wire.specs.declared.spdu.SessionRequest.{SessionRequest}
+use Rattle.wire.specs.declared.spdu.SessionRequest.TheVariants as ask
+use Rattle.wire.specs.SpduReading.{read_request}
+use Rattle.resource.specs.NumberTables.{put}
+use Rattle.resource.specs.Identifiers.{older}
+use Rattle.protocol.specs.SlotRecord.{first_free_number}
+use Rattle.protocol.specs.SlotCalls.{SlotCall, plug, pull, end, next, feed, expire}
 
--- an open session; its number is its place
-pub record Session : Type 0 where
+-- an open session, found by its number
+pub record LedgerSession : Type 0 where
   pub connection : ℕ
   pub identifier : ℕ
 
 -- what is kept of a connection
-pub record Line : Type 0 where
+pub record ConnectionLedger : Type 0 where
   pub active : Bool
   pub out : Bool
   pub fragments : List ℕ
-  pub chained : List ℕ
+  pub session_data : List ℕ
 
 -- what is kept of a slot
-pub record Page : Type 0 where
+pub record SlotLedger : Type 0 where
   pub present : Bool
-  pub sessions : ℕ → Option Session
-  pub line : ℕ → Line
+  pub sessions : ℕ → Option LedgerSession
+  pub connections : ℕ → ConnectionLedger
 
--- what the ledger is told beside a call: whether it was served, whether it handed out a turn, and what the resource finds and how ready it is, of which it asks at a 91 alone
-pub record Told : Type 0 where
+-- what the ledger is told beside a call: whether it was served, whether it handed out a turn,
+-- and what the resource finds and how ready it is, of which it asks at a 91 alone
+pub record LedgerInput : Type 0 where
   pub served : Bool
   pub handed : Bool
   pub finds : ℕ → Option ℕ
   pub ready : ℕ → ℕ
 
 -- at first
-abbrev pub blank : Page
-blank = record { present = false; sessions = λ _. None; line = λ _. record { active = false; out = false; fragments = []; chained = [] } }
+abbrev pub new_ledger : SlotLedger
+new_ledger = record {
+  present = false;
+  sessions = λ _. None;
+  connections = λ _. record { active = false; out = false; fragments = []; session_data = [] };
+}
 
-abbrev pub wiped : Line → Line
-wiped l = record { active = false; out = l.out; fragments = []; chained = [] }
+abbrev pub cleared_ledger : ConnectionLedger → ConnectionLedger
+cleared_ledger l = record l { active = false; fragments = []; session_data = [] }
 
-abbrev pub turned : Bool → Line → Line
-turned o l = record { active = l.active; out = o; fragments = l.fragments; chained = l.chained }
+abbrev pub set_turn_out : Bool → ConnectionLedger → ConnectionLedger
+set_turn_out o l = record l { out = o }
 
-abbrev pub activated : Line → Line
-activated l = record { active = true; out = l.out; fragments = l.fragments; chained = l.chained }
+abbrev pub set_active : ConnectionLedger → ConnectionLedger
+set_active l = record l { active = true }
 
-abbrev pub fragments_to : List ℕ → Line → Line
-fragments_to bs l = record { active = l.active; out = l.out; fragments = bs; chained = l.chained }
+abbrev pub fragments_to : List ℕ → ConnectionLedger → ConnectionLedger
+fragments_to bs l = record l { fragments = bs }
 
-abbrev pub chained_to : List ℕ → Line → Line
-chained_to bs l = record { active = l.active; out = l.out; fragments = l.fragments; chained = bs }
+abbrev pub set_session_data : List ℕ → ConnectionLedger → ConnectionLedger
+set_session_data bs l = record l { session_data = bs }
 
--- one connection's line changed
-abbrev pub amend : ℕ → (Line → Line) → Page → Page
-amend c g p = record { present = p.present; sessions = p.sessions; line = put c (g (p.line c)) p.line }
+-- one connection's ledger changed
+abbrev pub amend : ℕ → (ConnectionLedger → ConnectionLedger) → SlotLedger → SlotLedger
+amend c g p = record p { connections = put c (g (p.connections c)) p.connections }
 
 -- other sessions
-abbrev pub list : (ℕ → Option Session) → Page → Page
-list f p = record { present = p.present; sessions = f; line = p.line }
+abbrev pub set_sessions : (ℕ → Option LedgerSession) → SlotLedger → SlotLedger
+set_sessions f p = record p { sessions = f }
 
-abbrev pub on : ℕ → Option Session → Bool
-on c None = false
-on c (Some x) = x.connection == c
+abbrev pub session_is_on : ℕ → Option LedgerSession → Bool
+session_is_on c None = false
+session_is_on c (Some x) = x.connection == c
 
 -- a session ends if it is on the connection
-abbrev pub strike : ℕ → Option Session → Option Session
-strike c x = cond (on c x) None x
+abbrev pub strike : ℕ → Option LedgerSession → Option LedgerSession
+strike c x = if session_is_on c x then None else x
 
 -- a connection is not Active, and has no fragments, data or sessions
-abbrev pub wipe : ℕ → Page → Page
-wipe c p = amend c wiped (list (λ n. strike c (p.sessions n)) p)
+abbrev pub wipe : ℕ → SlotLedger → SlotLedger
+wipe c p = amend c cleared_ledger (set_sessions (λ n. strike c (p.sessions n)) p)
 
-abbrev pub opens_at : ℕ → ℕ → Option ℕ → Page → Page
-opens_at c j None p = p
-opens_at c j (Some n) p = list (put n (Some (record { connection = c; identifier = j })) p.sessions) p
+abbrev pub enter_open_if_free : ℕ → ℕ → Option ℕ → SlotLedger → SlotLedger
+enter_open_if_free c j None p = p
+enter_open_if_free c j (Some n) p = set_sessions (put n (Some (record { connection = c; identifier = j })) p.sessions) p
 
 -- 91: it opens where an identifier matches whose version is not lower, the resource is ready, and a number is free
-abbrev pub opens : ℕ → ℕ → Option ℕ → Told → Page → Page
-opens c i None t p = p
-opens c i (Some j) t p = cond (older j i) p (cond (t.ready j == 0) (opens_at c j (free p.sessions) p) p)
+abbrev pub enter_open : ℕ → ℕ → Option ℕ → LedgerInput → SlotLedger → SlotLedger
+enter_open c i None t p = p
+enter_open c i (Some j) t p = if older j i then p else (if t.ready j == 0 then enter_open_if_free c j (first_free_number p.sessions) p else p)
 
 -- 95
-abbrev pub closes : ℕ → ℕ → Page → Page
-closes c n p = list (put n (strike c (p.sessions n)) p.sessions) p
+abbrev pub enter_close : ℕ → ℕ → SlotLedger → SlotLedger
+enter_close c n p = set_sessions (put n (strike c (p.sessions n)) p.sessions) p
 
-abbrev pub asks : ℕ → Told → Result (Request Placed) Fault → Page → Page
-asks c t (Err e) p = p
-asks c t (Ok (ask.Open i)) p = opens c i (t.finds i) t p
-asks c t (Ok (ask.Close n)) p = closes c n p
-asks c t (Ok (ask.Data n body)) p = p
+abbrev pub enter_request : ℕ → LedgerInput → Result (SessionRequest Located) Fault → SlotLedger → SlotLedger
+enter_request c t (Err e) p = p
+enter_request c t (Ok (ask.Open i)) p = enter_open c i (t.finds i) t p
+enter_request c t (Ok (ask.Close n)) p = enter_close c n p
+enter_request c t (Ok (ask.Data n body)) p = p
 
 -- all data of a connection, if any, as a session unit
-abbrev pub unit : ℕ → Told → List ℕ → Page → Page
-unit c t [] p = p
-unit c t (b ∷ bs) p = asks c t (read_request (b ∷ bs)) p
+abbrev pub enter_session_unit : ℕ → LedgerInput → List ℕ → SlotLedger → SlotLedger
+enter_session_unit c t [] p = p
+enter_session_unit c t (b ∷ bs) p = enter_request c t (read_request (b ∷ bs)) p
 
-abbrev pub takes : ℕ → Told → Object Placed → Page → Page
-takes c t obj.Nothing p = p
-takes c t obj.CreateReply p = amend c activated p
-takes c t obj.Delete p = wipe c p
-takes c t obj.DeleteReply p = p
-takes c t obj.Request p = p
-takes c t (obj.Last d) p = unit c t ((p.line c).chained ++ d.bytes) (amend c (chained_to []) p)
-takes c t (obj.More d) p = amend c (chained_to ((p.line c).chained ++ d.bytes)) p
+abbrev pub enter_object : ℕ → LedgerInput → ResponseObject Located → SlotLedger → SlotLedger
+enter_object c t obj.CreateReply p = amend c set_active p
+enter_object c t obj.Delete p = wipe c p
+enter_object c t (obj.DataLast d) p = enter_session_unit c t ((p.connections c).session_data ++ d.bytes) (amend c (set_session_data []) p)
+enter_object c t (obj.DataMore d) p = amend c (set_session_data ((p.connections c).session_data ++ d.bytes)) p
+enter_object c t _ p = p
 
-abbrev pub hears : ℕ → Told → Result (Response Placed) Fault → Page → Page
-hears c t (Err e) p = p
-hears c t (Ok r) p = takes c t r.object p
+abbrev pub enter_transport_unit : ℕ → LedgerInput → Result (Response Located) Fault → SlotLedger → SlotLedger
+enter_transport_unit c t (Err e) p = p
+enter_transport_unit c t (Ok r) p = enter_object c t r.object p
 
 -- the fragments so far, with more to come or as a whole transport unit
-abbrev pub joins : ℕ → Told → Bool → List ℕ → Page → Page
-joins c t true bs p = amend c (fragments_to bs) p
-joins c t false bs p = hears c t (read_response c bs) (amend c (turned false) (amend c (fragments_to []) p))
+abbrev pub enter_fragments : ℕ → LedgerInput → Bool → List ℕ → SlotLedger → SlotLedger
+enter_fragments c t true bs p = amend c (fragments_to bs) p
+enter_fragments c t false bs p = enter_transport_unit c t (read_response c bs) (amend c (set_turn_out false) (amend c (fragments_to []) p))
 
-abbrev pub carries : ℕ → Told → Result (Fragment Placed) LinkFault → Page → Page
-carries c t (Err e) p = p
-carries c t (Ok f) p = joins c t f.more ((p.line c).fragments ++ f.bytes.bytes) p
+abbrev pub enter_link_unit : ℕ → LedgerInput → Result (Fragment Located) LinkFault → SlotLedger → SlotLedger
+enter_link_unit c t (Err e) p = p
+enter_link_unit c t (Ok f) p = enter_fragments c t f.more ((p.connections c).fragments ++ f.bytes.bytes) p
 
-abbrev pub plugs : Page → Page
-plugs p = record { present = true; sessions = p.sessions; line = p.line }
+abbrev pub enter_plug : SlotLedger → SlotLedger
+enter_plug p = record p { present = true }
 
 -- the slot is absent, and both its connections are wiped
-abbrev pub pulls : Page → Page
-pulls p = record { present = false; sessions = λ _. None; line = λ c. wiped (p.line c) }
+abbrev pub enter_pull : SlotLedger → SlotLedger
+enter_pull p = record { present = false; sessions = λ _. None; connections = λ c. cleared_ledger (p.connections c) }
 
 -- a call that was served; a link unit that was served has no more bytes than the agreed size, which the ledger does not know
-abbrev pub enter : Act → Told → Page → Page
-enter (plug n) t p = plugs p
-enter pull t p = pulls p
-enter (end c) t p = wipe c p
-enter (next c room) t p = cond t.handed (amend c (turned true) p) p
-enter (feed c lpdu) t p = carries c t (read_fragment (length lpdu) c lpdu) p
-enter (expire c) t p = cond (p.line c).out (wipe c (amend c (turned false) p)) p
+abbrev pub enter_served : SlotCall → LedgerInput → SlotLedger → SlotLedger
+enter_served (plug n) t p = enter_plug p
+enter_served pull t p = enter_pull p
+enter_served (end c) t p = wipe c p
+enter_served (next c room) t p = if t.handed then amend c (set_turn_out true) p else p
+enter_served (feed c lpdu) t p = enter_link_unit c t (read_fragment (length lpdu) c lpdu) p
+enter_served (expire c) t p = if (p.connections c).out then wipe c (amend c (set_turn_out false) p) else p
 
 -- a refused call changes nothing
-abbrev pub noted : Act → Told → Page → Page
-noted a t p = cond t.served (enter a t p) p
+abbrev pub enter_call : SlotCall → LedgerInput → SlotLedger → SlotLedger
+enter_call a t p = if t.served then enter_served a t p else p

@@ -1,8 +1,11 @@
+pub mod Limits
 pub mod Results
-pub mod Record
+pub mod SlotRecord
 pub mod Sound
-pub mod Calls
+pub mod SlotCalls
 pub mod Runs
 pub mod Ledger
-pub mod Laws
-pub mod Wire
+pub mod HostLaws
+pub mod TurnMarks
+pub mod RefusalNumbers
+pub mod RefusalText

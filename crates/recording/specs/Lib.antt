@@ -1,3 +1,5 @@
-pub mod Hex
-pub mod Lines
-pub mod Names
+pub mod UnitNames
+pub mod Joining
+pub mod JoinerViews
+pub mod LineReading
+pub mod LineNames

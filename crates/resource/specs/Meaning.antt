@@ -1,6 +1,6 @@
 -- What a resource means: all that it keeps for a slot, and what each call answers and leaves.
 use Rattle.std.specs.Prelude.{ℕ, Bool, List, Option, Result}
-use Rattle.apdu.specs.declared.Apdu.{Apdu}
+use Rattle.wire.specs.declared.apdu.Apdu.{Apdu}
 
 -- what a resource answers to an object: a reply or none, or a refusal byte
 abbrev pub Reaction : Type 0
@@ -23,7 +23,7 @@ pub record Meaning (S : Type 0) : Type 1 where
   -- its identifiers, and whether a share holds the session of this number and identifier
   pub listed : Made → List ℕ
   pub holds : Made → Share → ℕ → ℕ → Bool
-  -- the share to begin with where this time was told last
+  -- a beginning: the share that holds no session, where this time was told last
   pub beginning : Made → Option (List ℕ) → Share
   -- what it answers: to a slot and an identifier, to an identifier, to a slot
   pub ready : Made → ℕ → ℕ → Share → ℕ

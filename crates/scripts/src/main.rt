@@ -1,7 +1,7 @@
 // Plays scripts: of each file that standard input names, a name a line, what shelf prints for it.
 #![tactic(auto)]
 
-use standard::{THREE, three};
+use standard::{STANDARD_IDENTIFIERS, standard_resources};
 use std::{fs, io};
 
 fn help(rt: &HostRuntime) -> io::Result<()> {
@@ -13,7 +13,11 @@ fn help(rt: &HostRuntime) -> io::Result<()> {
 
 fn script(rt: &HostRuntime, name: &str) -> io::Result<()> {
     println!(rt; "{name}")?;
-    console::play(rt, three(&THREE), fs::open(rt, name)?)
+    console::play(
+        rt,
+        standard_resources(&STANDARD_IDENTIFIERS),
+        fs::open(rt, name)?,
+    )
 }
 
 fn scripts(rt: &HostRuntime) -> io::Result<()> {

@@ -1,7 +1,7 @@
 // A host for a shelf of four slots: a call a line on standard input, an answer a line on standard output.
 #![tactic(auto)]
 
-use standard::{THREE, three};
+use standard::{STANDARD_IDENTIFIERS, standard_resources};
 use std::io;
 
 fn help(rt: &HostRuntime) -> io::Result<()> {
@@ -15,6 +15,6 @@ fn main(rt: HostRuntime) -> io::Result<()> {
     if console::asks_help(&rt)? {
         help(&rt)
     } else {
-        console::play(&rt, three(&THREE), rt.stdin())
+        console::play(&rt, standard_resources(&STANDARD_IDENTIFIERS), rt.stdin())
     }
 }

@@ -1,5 +1,5 @@
 use Rattle.std.proofs.Common.{rules}
-use Rattle.host.proofs.Called.{clock_told, clock_off}
+use Rattle.host.proofs.OneSlotCalled.{clock_told, clock_off}
 use Rattle.host.proofs.turn.host.Host.clock.Goals as goal
 
 pub returns-then-not-time_fits : goal.returns-then-not-time_fits

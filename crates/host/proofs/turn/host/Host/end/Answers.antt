@@ -1,7 +1,7 @@
 use Rattle.std.proofs.Common.{arith, rules}
 use Rattle.std.proofs.lemmas.Result.{err_from_is_err_and}
-use Rattle.protocol.specs.Calls.{end}
-use Rattle.host.proofs.Called.{called_named}
+use Rattle.protocol.specs.SlotCalls.{end}
+use Rattle.host.proofs.OneSlotCalled.{called_named}
 use Rattle.host.proofs.turn.host.Host.end.Goals as goal
 
 pub returns-in_err-at : goal.returns-in_err-at

@@ -1,6 +1,6 @@
 use Rattle.std.proofs.Common.{Ok, arith, rules}
-use Rattle.protocol.specs.Calls.{expire, done}
-use Rattle.host.proofs.Called.{called_at}
+use Rattle.protocol.specs.SlotCalls.{expire, done}
+use Rattle.host.proofs.OneSlotCalled.{called_at}
 use Rattle.host.proofs.turn.host.Host.expire.Goals as goal
 
 pub returns : goal.returns

@@ -1,5 +1,5 @@
 use Rattle.std.proofs.Common.{sym, rules}
-use Rattle.host.proofs.Called.{begins}
+use Rattle.host.proofs.OneSlotCalled.{begins}
 use Rattle.host.proofs.turn.host.Host.new.Goals as goal
 
 pub returns : goal.returns

@@ -1,9 +1,9 @@
 use Rattle.std.proofs.Common.{length, take, is_some, Ok, Err, ap, arith, rules}
 use Rattle.std.proofs.lemmas.Result.{err_from_is_err_and}
-use Rattle.protocol.specs.Calls.{next, wrote}
+use Rattle.protocol.specs.SlotCalls.{next, wrote}
 use Rattle.protocol.specs.Runs.{at}
-use Rattle.host.proofs.Called.{called_named, called_as}
-use Rattle.host.proofs.Handed.{handed}
+use Rattle.host.proofs.OneSlotCalled.{called_named, called_as}
+use Rattle.host.proofs.TurnHandedOut.{handed}
 use Rattle.host.proofs.turn.host.Host.next.Goals as goal
 
 pub returns-in_err-at-clause-called : goal.returns-in_err-at-clause-called

@@ -1,5 +1,0 @@
--- Tags.
-use Rattle.std.specs.Prelude.{ℕ}
-
-abbrev pub apdu : ℕ
-apdu = 0x9f

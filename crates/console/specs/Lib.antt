@@ -1,0 +1,4 @@
+pub mod PrintedAnswers
+pub mod CallLines
+pub mod PrintedCalls
+pub mod LineWords

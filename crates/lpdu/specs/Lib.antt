@@ -1,4 +1,0 @@
-pub mod Fragments
-pub mod Link
-pub mod Tags
-pub mod Views

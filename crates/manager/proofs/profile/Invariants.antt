@@ -1,6 +1,0 @@
-use Rattle.std.proofs.Common.{◌≡◌}
-use Rattle.manager.proofs.Profiles.{begun}
-use Rattle.manager.proofs.profile.Given as goal
-
-abbrev pub invariant-loop-identifier : goal.invariant-loop-identifier
-invariant-loop-identifier l = l.bytes.items ≡ begun l.identifier-items l.identifier-index

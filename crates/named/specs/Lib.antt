@@ -1,2 +1,0 @@
-pub mod Nature
-pub mod Shares

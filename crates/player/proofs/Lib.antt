@@ -1,4 +1,0 @@
-pub mod Marks
-pub mod Turns
-pub mod Lists
-pub mod Apart

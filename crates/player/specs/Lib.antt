@@ -1,4 +1,0 @@
-pub mod Marks
-pub mod Hands
-pub mod Play
-pub mod Plays

@@ -1,5 +1,0 @@
-use Rattle.protocol.proofs.Agree.{sessions_agree}
-use Rattle.protocol.proofs.sessions_agree.Goals as goal
-
-pub returns : goal.returns
-returns g c = λ made. sessions_agree g.R.Resource.meaning made g.R.Resource.laws

@@ -1,5 +1,0 @@
-use Rattle.protocol.proofs.Stands.{stands_new, stands_step}
-use Rattle.protocol.proofs.still_stands.Goals as goal
-
-pub returns : goal.returns
-returns g c = record { new = λ made. stands_new g.R.Resource.meaning made g.R.Resource.laws; on = λ made. stands_step g.R.Resource.meaning made g.R.Resource.laws }

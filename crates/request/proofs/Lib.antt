@@ -1,3 +1,0 @@
-pub mod Digits
-pub mod WordsLemmas
-pub mod BytesLemmas

@@ -1,4 +1,0 @@
-pub mod Calls
-pub mod Lines
-pub mod Names
-pub mod Words

@@ -1,0 +1,2 @@
+pub mod TableLemmas
+pub mod TallyLemmas

@@ -1,0 +1,11 @@
+use Rattle.std.proofs.Common.{◌≡◌, true, false, not, is_some, ◌∙◌, rules}
+use borrow.Author.Tests.{tests}
+use Rattle.std.proofs.lemmas.Iterator.{YieldsList-from_slice, IsFirst-from_position}
+use Rattle.slot.proofs.RecordChanges.{first_place}
+use Rattle.slot.proofs.record.Record.first_free.Goals as goal
+
+pub returns : goal.returns
+returns c =
+    c.number_at.ensures
+    ∙ first_place (λ r. not (is_some r)) c.args.self.now c.position.result (search rules)
+    (IsFirst-from_position _ _ _ (λ r. not (is_some r) ≡ true) (λ r. not (is_some r) ≡ false) c.position.ensures.ran (YieldsList-from_slice c.args.self.now.rows cc) (λ x q k. search (rules, tests)) (λ x q k. search (rules, tests)))

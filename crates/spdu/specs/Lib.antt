@@ -1,4 +1,0 @@
-pub mod Replies
-pub mod Session
-pub mod Tags
-pub mod Views

@@ -1,0 +1,2 @@
+mod ProfileBytes
+mod SessionSetLemmas

@@ -1,0 +1,3 @@
+pub mod Errors
+pub mod Lines
+pub mod Words

@@ -1,4 +1,0 @@
-pub mod Commands
-pub mod Tags
-pub mod Transport
-pub mod Views
