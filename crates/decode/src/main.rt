@@ -154,8 +154,10 @@ fn help(rt: &HostRuntime) -> io::Result<()> {
 // A carriage return at the end of the longest line is read too.
 fn decode(rt: &HostRuntime) -> io::Result<()> {
     let mut decoder = Decoder::new(rt.alloc());
-    for line in Lines::new(rt.alloc(), rt.stdin(), LONGEST_LINE + 1)? {
-        decoder.line(rt, line?.as_slice())?;
+    let mut lines = Lines::new(rt.alloc(), rt.stdin(), LONGEST_LINE + 1)?;
+    let mut line = Vec::new(rt.alloc());
+    while lines.read_into(&mut line)? {
+        decoder.line(rt, line.as_slice())?;
     }
     Ok(())
 }

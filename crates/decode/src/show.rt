@@ -8,6 +8,19 @@ use wire::{
     SessionRequest, SpduReader, TpduReader, spdu, tpdu,
 };
 
+// Hexadecimal digits, one after the other.
+#[derive(Clone, Copy)]
+struct Digits<'a>(&'a [char]);
+
+impl fmt::Display for Digits<'_> {
+    fn fmt<W: fmt::Write>(&self, f: &mut fmt::Formatter<W>) -> fmt::Result {
+        for digit in self.0 {
+            f.write_char(*digit)?;
+        }
+        Ok(())
+    }
+}
+
 // How many bytes.
 #[derive(Clone, Copy)]
 struct ByteCount(usize);
@@ -32,7 +45,7 @@ impl fmt::Display for Status {
     fn fmt<W: fmt::Write>(&self, f: &mut fmt::Formatter<W>) -> fmt::Result {
         match self.meaning {
             Some(meaning) => f.write_str(meaning),
-            None => write!(f, "status {:02X}", self.code),
+            None => write!(f, "status {}", Digits(&names::hex(self.code))),
         }
     }
 }
@@ -43,7 +56,7 @@ struct Identifier(u32);
 
 impl fmt::Display for Identifier {
     fn fmt<W: fmt::Write>(&self, f: &mut fmt::Formatter<W>) -> fmt::Result {
-        write!(f, "{:08X}", self.0)?;
+        write!(f, "{}", Digits(&names::hex_word(self.0)))?;
         match names::resource_name(self.0) {
             Some(name) => write!(f, " {name}"),
             None => Ok(()),
@@ -65,7 +78,7 @@ pub(crate) fn link(
             let size = ByteCount(fragment.bytes.bytes.len());
             println!(rt; ", connection {}, {mark}, {size}", way.connection)
         }
-        Err(fault) => println!(rt; ", {}\n  link: {fault}", ByteCount(length)),
+        Err(fault) => println!(rt; ", {}\n  link: {}", ByteCount(length), fault.name()),
     }
 }
 
@@ -100,7 +113,7 @@ pub(crate) fn tpdu(
             Err(fault) => fault,
         },
     };
-    println!(rt; "  transport: {}", fault.0)
+    println!(rt; "  transport: {}", fault.0.name())
 }
 
 // The tag of what the host sends.
@@ -123,7 +136,7 @@ fn show_command(rt: &HostRuntime, command: Command<Part<'_>>) -> io::Result<()> 
             println!(rt; "")
         }
         Command::NewConnection(new) => println!(rt; ", connection {new}"),
-        Command::Error(code) => println!(rt; ", code {code:02X}"),
+        Command::Error(code) => println!(rt; ", code {}", Digits(&names::hex(code))),
         Command::Data(data) => show_host_data(rt, data.bytes),
     }
 }
@@ -208,7 +221,7 @@ fn request(rt: &HostRuntime, spdu: &[u8]) -> io::Result<()> {
             names::spdu_name(spdu::CLOSE_SESSION_REQUEST)
         ),
         Ok(SessionRequest::Data(number, body)) => show_session_data(rt, number, body.bytes),
-        Err(fault) => println!(rt; "    session: {}", fault.0),
+        Err(fault) => println!(rt; "    session: {}", fault.0.name()),
     }
 }
 
@@ -233,7 +246,7 @@ fn reply(rt: &HostRuntime, spdu: &[u8]) -> io::Result<()> {
             }
         ),
         Ok(SessionReply::Data(number, body)) => show_session_data(rt, number, body.bytes),
-        Err(fault) => println!(rt; "    session: {}", fault.0),
+        Err(fault) => println!(rt; "    session: {}", fault.0.name()),
     }
 }
 
@@ -245,11 +258,11 @@ fn show_session_data(rt: &HostRuntime, number: u16, body: &[u8]) -> io::Result<(
     )?;
     let object = match ApduReader::new(body).object() {
         Ok(object) => object,
-        Err(fault) => return println!(rt; "      object: {}", fault.0),
+        Err(fault) => return println!(rt; "      object: {}", fault.0.name()),
     };
     match names::apdu_name(object.tag) {
         Some(name) => print!(rt; "      {name}")?,
-        None => print!(rt; "      tag {:06X}", object.tag)?,
+        None => print!(rt; "      tag {}", Digits(&names::hex_word(object.tag)[2..]))?,
     }
     contents(rt, object.body.bytes)
 }
@@ -261,7 +274,7 @@ fn contents(rt: &HostRuntime, bytes: &[u8]) -> io::Result<()> {
         print!(rt; ":")?;
     }
     for byte in bytes.iter().take(8) {
-        print!(rt; " {byte:02X}")?;
+        print!(rt; " {}", Digits(&names::hex(*byte)))?;
     }
     if bytes.len() > 8 {
         print!(rt; " ..")?;

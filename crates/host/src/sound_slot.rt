@@ -13,7 +13,7 @@ use resource::{ConnectionId, Resource, SlotNumber};
 use slot::{Record, SlotContext, WrittenCommand};
 
 // A slot, whose record is always sound: each session is on an Active connection, and nothing is owed where the turn is out.
-#[derive(Drop)]
+#[derive(Clone, Copy)]
 pub struct Slot {
     contents: Record,
     ghost sound: { ∥ Sound (slot_of contents) ∥₁ },

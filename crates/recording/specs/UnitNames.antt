@@ -1,5 +1,5 @@
--- Names of units, statuses, resources and objects.
-use Rattle.std.specs.Prelude.{ℕ, ◌/◌, if◌then◌else◌, List, Some, None, codes, Option, ◌==◌}
+-- Names of units, statuses, resources and objects, and numbers in hexadecimal digits.
+use Rattle.std.specs.Prelude.{ℕ, ◌+◌, ◌-◌, ◌/◌, ◌%◌, if◌then◌else◌, List, [], ◌∷◌, Some, None, codes, Option, ◌==◌, nat_lt}
 
 -- the object of a transport unit, by its tag
 abbrev pub name_of_tpdu : ℕ → List ℕ
@@ -75,3 +75,24 @@ name_of_apdu tag =
     else if tag == 0x9F8440 then Some (codes "date-time enquiry")
     else if tag == 0x9F8441 then Some (codes "date-time")
     else None
+
+-- the character of a number's last hexadecimal digit: 0 to 9, then A to F
+abbrev pub hexadecimal_digit : ℕ → ℕ
+hexadecimal_digit n = if nat_lt (n % 16) 10 then 48 + n % 16 else 65 + (n % 16 - 10)
+
+-- a byte in two digits
+abbrev pub byte_digits : ℕ → List ℕ
+byte_digits n = hexadecimal_digit (n / 16) ∷ hexadecimal_digit n ∷ []
+
+-- a number of 32 bits in eight digits
+abbrev pub word_digits : ℕ → List ℕ
+word_digits n =
+    hexadecimal_digit (n / 0x10000000)
+    ∷ hexadecimal_digit (n / 0x1000000)
+    ∷ hexadecimal_digit (n / 0x100000)
+    ∷ hexadecimal_digit (n / 0x10000)
+    ∷ hexadecimal_digit (n / 0x1000)
+    ∷ hexadecimal_digit (n / 0x100)
+    ∷ hexadecimal_digit (n / 0x10)
+    ∷ hexadecimal_digit n
+    ∷ []

@@ -1,7 +1,7 @@
-// Names of units, statuses, resources and objects.
+// Names of units, statuses, resources and objects, and numbers in hexadecimal digits.
 ghost use Rattle.std.specs.Prelude.{◌≡◌};
 ghost use Rattle.std.specs.Option.{option_map};
-ghost use Rattle.recording.specs.UnitNames.{name_of_tpdu, name_of_spdu, name_of_open_status, name_of_close_status, name_of_resource, name_of_apdu};
+ghost use Rattle.recording.specs.UnitNames.{name_of_tpdu, name_of_spdu, name_of_open_status, name_of_close_status, name_of_resource, name_of_apdu, hexadecimal_digit, byte_digits, word_digits};
 
 use wire::{apdu, spdu, tpdu};
 
@@ -100,4 +100,40 @@ pub fn apdu_name(tag: u32) -> Option<&'static str>
         apdu::DATE_TIME => Some("date-time"),
         _ => None,
     }
+}
+
+// The last hexadecimal digit of a number.
+fn digit(n: u32) -> char
+    ensures { result ≡ hexadecimal_digit n }
+{
+    let low = (n % 16) as u8;
+    if low < 10 {
+        (b'0' + low) as char
+    } else {
+        (b'A' + (low - 10)) as char
+    }
+}
+
+/// A byte in two hexadecimal digits, in capitals, the high one first.
+pub fn hex(byte: u8) -> [char; 2]
+    ensures { result ≡ byte_digits byte }
+{
+    let n = byte as u32;
+    [digit(n / 16), digit(n)]
+}
+
+/// A number in eight hexadecimal digits, in capitals, the highest first.
+pub fn hex_word(n: u32) -> [char; 8]
+    ensures { result ≡ word_digits n }
+{
+    [
+        digit(n / 0x10000000),
+        digit(n / 0x1000000),
+        digit(n / 0x100000),
+        digit(n / 0x10000),
+        digit(n / 0x1000),
+        digit(n / 0x100),
+        digit(n / 0x10),
+        digit(n),
+    ]
 }

@@ -7,6 +7,7 @@ use Rattle.resource.specs.InterfaceViews.{buffer_bytes}
 use Rattle.protocol.specs.declared.state.OwedCommand.{OwedCommand}
 use Rattle.protocol.specs.declared.state.OwedCommand.TheVariants.{NewConnection, NoConnection, SessionUnit}
 use Rattle.protocol.specs.SlotRecord.{ConnectionRecord}
+use Rattle.slot.specs.BufferViews.{items}
 use Rattle.slot.specs.declared.connection.Connection.{Connection}
 
 -- with another way to hold an object
@@ -24,8 +25,8 @@ conn_of x = record {
   out = x.out;
   available = x.available;
   owed = option_map owed_of x.owed;
-  fragments = x.fragments.items;
-  session_data = x.session_data.items;
+  fragments = items x.fragments;
+  session_data = items x.session_data;
 }
 
 -- other fragments, and other data

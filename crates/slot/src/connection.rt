@@ -7,7 +7,7 @@ ghost use Rattle.slot.specs.ConnectionViews.{conn_of, owed_of, part_of, append_d
 ghost use Rattle.slot.specs.AddIfFits.{add_if_fits};
 ghost use Rattle.slot.specs.ConnectionChanges.{apply_change};
 
-use arrayvec::ArrayVec;
+use crate::buffer::Buffer;
 use protocol::{OwedCommand, State};
 use resource::ApduBuf;
 
@@ -38,7 +38,7 @@ pub enum Change {
 }
 
 /// A transport connection of a slot. It is changed through its record.
-#[derive(Drop)]
+#[derive(Clone, Copy)]
 pub struct Connection {
     state: State,
     // Its turn is out.
@@ -46,8 +46,8 @@ pub struct Connection {
     // The module has data to send (DA).
     available: bool,
     owed: Option<OwedCommand<ApduBuf>>,
-    fragments: ArrayVec<u8, FRAGMENTS>,
-    session_data: ArrayVec<u8, DATA>,
+    fragments: Buffer<FRAGMENTS>,
+    session_data: Buffer<DATA>,
 }
 
 // The `n` bytes from `start` on, or as many of them as there are.
@@ -67,8 +67,8 @@ impl Connection {
             out: false,
             available: false,
             owed: None,
-            fragments: ArrayVec::new(),
-            session_data: ArrayVec::new(),
+            fragments: Buffer::new(),
+            session_data: Buffer::new(),
         }
     }
 
@@ -166,7 +166,7 @@ impl Connection {
     pub(crate) fn push_fragment(&mut self, more: &[u8]) -> bool
         ensures { add_if_fits (nat_le (length (conn_of self.old).fragments + length more.now) fragment_limit) (append_fragment more.now) (conn_of self.old) ≡ (result, conn_of self.new) }
     {
-        self.fragments.try_extend_from_slice(more).is_ok()
+        self.fragments.add(more)
     }
 
     // Adds `n` bytes of the fragments, from `start` on, to the data, if these have at most 2,048 bytes then, and tells whether they have.
@@ -174,6 +174,6 @@ impl Connection {
         ensures { add_if_fits (nat_le (length (conn_of self.old).session_data + length (part_of start n (conn_of self.old))) data_limit) (append_data start n) (conn_of self.old) ≡ (result, conn_of self.new) }
     {
         let more = part(self.fragments.as_slice(), start, n);
-        self.session_data.try_extend_from_slice(more).is_ok()
+        self.session_data.add(more)
     }
 }

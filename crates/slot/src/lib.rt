@@ -2,6 +2,7 @@
 #![tactic(auto)]
 
 mod agreed_size;
+mod buffer;
 mod connection;
 mod context;
 mod receive;
@@ -10,8 +11,9 @@ mod session;
 mod transmit;
 
 pub use agreed_size::AgreedSize;
+pub use buffer::Buffer;
 pub use connection::{Change, Connection};
 pub use context::SlotContext;
 pub use receive::feed;
-pub use record::Record;
+pub use record::{NumberedRow, Record, session_number};
 pub use transmit::{WrittenCommand, next};

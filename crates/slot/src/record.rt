@@ -16,7 +16,7 @@ use crate::connection::{Change, Connection};
 use protocol::{SessionRow, State};
 use resource::{ConnectionId, SessionNumber};
 
-// An open session with its number.
+/// An open session with its number.
 #[derive(Clone, Copy)]
 pub struct NumberedRow {
     pub number: SessionNumber,
@@ -24,8 +24,9 @@ pub struct NumberedRow {
 }
 
 /// What a slot keeps: the agreed size where it has a module, connections 1 and 2, and sessions 1 to 16. Its own functions
-/// change one part each and promise nothing between them; the calls on a `SlotContext`, `feed` and `next` keep it sound.
-#[derive(Drop)]
+/// change one part each and promise nothing between them; plug, pull, end and expire of a `SlotContext`, `feed` and `next`
+/// keep it sound.
+#[derive(Clone, Copy)]
 pub struct Record {
     // There is a module, with this agreed size.
     agreed: Option<AgreedSize>,
@@ -141,7 +142,7 @@ impl Record {
     pub fn session(&self, number: u16) -> Option<NumberedRow>
         ensures { numbered_row result ≡ numbered number ((slot_of self.now).rows number) }
     {
-        let number = SessionNumber::new(u8::try_from(number).ok()?)?;
+        let number = session_number(number)?;
         let row = self.row(number)?;
         Some(NumberedRow { number, row })
     }
@@ -159,6 +160,13 @@ impl Record {
     {
         number_at(self.rows.iter().position(|row| greets(c.get(), *row)))
     }
+}
+
+/// The number of a session as an SPDU tells it, in two bytes, if it is from 1 to 16, else none.
+pub fn session_number(number: u16) -> Option<SessionNumber>
+    ensures { option_map (λ n. n.number) result ≡ (if leb 1 number && nat_le number 16 then Some number else None) }
+{
+    u8::try_from(number).ok().and_then(SessionNumber::new)
 }
 
 // The number of the session whose row has this index.

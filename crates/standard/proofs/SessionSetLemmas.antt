@@ -1,9 +1,9 @@
 -- Sets of session numbers read, changed and counted.
-use Rattle.std.proofs.Common.{◌≡◌, ℕ, zero, suc, ◌+◌, ◌-◌, ◌<◌, ◌≤◌, Bool, false, cond, eqb, List, [], ◌∷◌, length, get_or, set, replicate, sym, refl, ap, ◌∙◌, add-zero, arith}
+use Rattle.std.proofs.Common.{◌≡◌, ℕ, zero, suc, ◌+◌, ◌-◌, ◌<◌, ◌≤◌, Bool, false, cond, eqb, List, [], ◌∷◌, length, get_or, set, replicate, take, sym, refl, ap, ◌∙◌, add-zero, arith}
 use mathlib.Core.Path.{fun_ext}
 use Rattle.std.specs.List.{count_by}
 use Rattle.std.proofs.lemmas.Bool.{cond_both, eqb-true, eqb-false}
-use Rattle.std.proofs.lemmas.List.{get_or-set_same, get_or-set_other, get_or_past}
+use Rattle.std.proofs.lemmas.List.{get_or-set_same, get_or-set_other, get_or_past, take_all}
 use Rattle.std.proofs.lemmas.List.Sums.{sum_by-cons}
 use Rattle.resource.specs.NumberTables.{put, numbers_from, tally, session_numbers}
 use Rattle.standard.specs.declared.session_set.SessionSet.{SessionSet}
@@ -66,3 +66,7 @@ pub len_is_tally : (m : SessionSet) → length m.flags ≡ 16 → count_by (λ b
 unfolding contains_number session_numbers
 len_is_tally m long =
     counted_from (contains_number m) m.flags 1 (λ i. let e : 1 + i ≡ suc i = omega arith in ap (contains_number m) e) ∙ ap (λ n. tally (contains_number m) (numbers_from 1 n)) long
+
+-- the same of the first so many flags, where these are all
+pub sum_is_tally : (m : SessionSet) (k : ℕ) → length m.flags ≡ 16 → 16 ≤ k → count_by (λ b. b) (take k m.flags) ≡ tally (contains_number m) session_numbers
+sum_is_tally m k long past = ap (count_by (λ b. b)) (take_all k m.flags (omega arith)) ∙ len_is_tally m long

@@ -13,7 +13,9 @@ use Rattle.resource.specs.ShortApdu.{object_limit, is_short_apdu, IsShortApdu}
 use Rattle.resource.specs.Meaning.{Reaction, Outcome, outcome}
 use Rattle.standard.specs.StandardRules.{apdu_bytes, if_right_length, identifier_bytes, profile_answer, manager_rules, is_information, information_rules, time_answer, date_time_rules}
 use Rattle.resource.proofs.TableLemmas.{no_some}
-use Rattle.standard.specs.SingleMeaning.{LawfulOutcome, LawfulRules}
+use Rattle.resource.specs.Lawful.{Lawful}
+use Rattle.standard.specs.SingleMeaning.{LawfulOutcome, LawfulRules, SingleShare, single_of}
+use Rattle.standard.specs.SingleLaws.{single_lawful}
 
 -- a length below 80, and that many bytes to the end
 whole_field : (body : List ℕ) (end : ℕ) → nat_lt (length body) 0x80 ≡ true
@@ -96,3 +98,14 @@ date_time_rules_lawful = record {
       fine_cond f (a.tag == tag.date_time_enquiry) _ _ (fine_fits f (length a.body == 1) _ (fine_answer f _ _ (time_good t)))
       (fine_answer f _ _ tt);
 }
+
+-- each of the three is lawful, whatever it is made of and wherever its shares are kept
+module _ {U : Type 0} where
+  pub manager_lawful : (made : U → List ℕ) (share : U → ℕ → SingleShare (ℕ → Bool)) → Lawful (single_of manager_rules made share)
+  manager_lawful made share = single_lawful manager_rules made share manager_rules_lawful
+
+  pub information_lawful : (made : U → Unit {0}) (share : U → ℕ → SingleShare (Option (List ℕ))) → Lawful (single_of information_rules made share)
+  information_lawful made share = single_lawful information_rules made share information_rules_lawful
+
+  pub date_time_lawful : (made : U → Unit {0}) (share : U → ℕ → SingleShare (Unit {0})) → Lawful (single_of date_time_rules made share)
+  date_time_lawful made share = single_lawful date_time_rules made share date_time_rules_lawful

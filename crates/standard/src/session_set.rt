@@ -44,11 +44,15 @@ impl SessionSet {
         self.flags[number.get() as usize - 1] = false;
     }
 
-    #[tactic(auto, using(crate::proofs::SessionSetLemmas::len_is_tally))]
+    #[tactic(auto, using(crate::proofs::SessionSetLemmas::sum_is_tally))]
     pub fn len(self) -> usize
         ensures count { result ≡ tally (contains_number self) session_numbers }
         ensures within { result ≤ 16 }
     {
-        self.flags.iter().filter(|mark| **mark).count()
+        let mut total = 0;
+        for mark in self.flags {
+            total += usize::from(mark);
+        }
+        total
     }
 }

@@ -1,33 +1,43 @@
 -- Reading lines, each cut to a limit, from an input whose bytes are known or not.
-use Rattle.std.specs.Prelude.{◌≡◌, ℕ, ◌+◌, ◌≤◌, List, [], ◌∷◌, ◌++◌, length, take, Option, Some, Result, IfSome, IfOk, MatchOption, if◌then◌else◌, ◌==◌, nat_le}
-use Rattle.std.specs.Io.KnownBytes.{IsAtEnd}
+use Rattle.std.specs.Prelude.{◌≡◌, ℕ, ◌+◌, ◌-◌, ◌≤◌, Bool, not, List, [], ◌∷◌, ◌++◌, length, take, Option, Some, None, Result, IfSome, IfOk, MatchOption, if◌then◌else◌, ◌==◌}
+use Rattle.std.specs.Io.KnownBytes.{Consumes, IsAtEnd}
 use Rattle.std.specs.Io.BufRead.{drop_through}
-use Rattle.std.specs.Io.Iter.{bytes_left, bytes_remaining}
 use Rattle.std.specs.Io.Buffered.{reader_remaining}
-use Rattle.std.specs.Iterator.Adapters.{fuse_done, fuse_source}
 use Rattle.text.specs.declared.lines.Lines.{Lines}
+use Rattle.text.specs.declared.lines.Piece.{Piece}
+use Rattle.text.specs.declared.lines.Piece.TheVariants.{Part, Whole, End}
 
 -- the most bytes that a line may have
 abbrev pub limit : {R : Type 0} → Lines R → ℕ
 limit lines = lines.limit
 
--- the bytes that are still to be read, where they are known: none after the end
+-- the bytes that are still to be read, where they are known: none after the end; what there is once it has given up is not known
 abbrev pub left : {R : Type 0} → (R → Option (List ℕ)) → Lines R → Option (List ℕ)
 left remaining lines =
-    if fuse_done lines.bytes then Some [] else bytes_remaining (reader_remaining remaining) (fuse_source lines.bytes)
+    if lines.turns == 0 then (if lines.ended then Some [] else None) else reader_remaining remaining lines.input
 
--- how many more bytes may come
+-- how many more pieces of the input may come
 abbrev pub count : {R : Type 0} → Lines R → ℕ
-count lines = if fuse_done lines.bytes then 0 else bytes_left (fuse_source lines.bytes)
+count lines = lines.turns
 
--- a line with one byte more, of which no more is held than the limit and one byte
-abbrev pub with_byte : ℕ → List ℕ → ℕ → List ℕ
-with_byte limit line byte = if nat_le (length line) limit then line ++ byte ∷ [] else line
+-- another byte than a line feed
+abbrev pub in_line : ℕ → Bool
+in_line c = not (c == 10)
 
 -- the bytes up to the first line feed, or all of them
 abbrev pub first_line : List ℕ → List ℕ
 first_line [] = []
 first_line (c ∷ text) = if c == 10 then [] else c ∷ first_line text
+
+-- a line with more bytes, of which no more are held than the limit and one byte
+abbrev pub with_bytes : ℕ → List ℕ → List ℕ → List ℕ
+with_bytes limit line bytes = line ++ take (limit + 1 - length line) bytes
+
+-- what a piece of the input adds to a line: bytes with no line feed among them, then the line feed if it is there; at the end nothing
+abbrev pub Adds : ℕ → Piece → List ℕ → List ℕ → Option (List ℕ) → Option (List ℕ) → Type 0
+Adds limit Part line grown old new = (bytes : List ℕ) × (first_line bytes ≡ bytes) × (grown ≡ with_bytes limit line bytes) × Consumes old new bytes
+Adds limit Whole line grown old new = (bytes : List ℕ) × (first_line bytes ≡ bytes) × (grown ≡ with_bytes limit line bytes) × Consumes old new (bytes ++ 10 ∷ [])
+Adds limit End line grown old new = (grown ≡ line) × IsAtEnd old
 
 -- a line: one byte more than the limit at most; where the bytes are known it is the first of them, which are gone with their line feed
 abbrev pub IsLine : ℕ → Option (List ℕ) → List ℕ → Option (List ℕ) → Type 0

@@ -1,10 +1,11 @@
 // What the decoder's libraries make of lines and bytes, and names.
 #[cfg(test)]
 mod tests {
-    use recording::names::resource_name;
+    use recording::names::{hex_word, resource_name};
     use recording::{BadLine, Direction, JoinError, PartialUnit, RecordingLine, parse_line};
+    use std::io;
     use std::test::Fail;
-    use text::LineError;
+    use text::{LineError, Lines};
 
     #[test]
     fn good_lines(rt: HostRuntime) -> Result<(), Fail> {
@@ -67,9 +68,28 @@ mod tests {
     }
 
     #[test]
+    fn lines_in_one_vector(rt: HostRuntime) -> io::Result<()> {
+        let input: &[u8] = b"abc\nabcde\n\nx";
+        let mut lines = Lines::new(rt.alloc(), input, 3)?;
+        let mut line = Vec::new(rt.alloc());
+        let expected: [&[u8]; 4] = [b"abc", b"abcd", b"", b"x"];
+        for text in expected {
+            assert!(rt; lines.read_into(&mut line)?);
+            assert!(rt; line.as_slice() == text);
+        }
+        assert!(rt; !lines.read_into(&mut line)?);
+        assert!(rt; line.is_empty());
+        Ok(())
+    }
+
+    #[test]
     fn resources(rt: HostRuntime) {
         assert_eq!(rt; resource_name(0x00010041), Some("Resource Manager"));
         assert_eq!(rt; resource_name(0x0024007F), Some("Date-Time"));
         assert_eq!(rt; resource_name(0x00400081), None);
+        assert_eq!(rt;
+            hex_word(0x0024007F),
+            ['0', '0', '2', '4', '0', '0', '7', 'F']
+        );
     }
 }

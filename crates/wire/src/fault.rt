@@ -17,15 +17,24 @@ pub enum Fault {
     Content,
 }
 
+impl Fault {
+    /// Its name in small letters.
+    pub fn name(self) -> &'static str
+        ensures { result.now ≡ fault_name self }
+    {
+        match self {
+            Fault::Tag => "tag",
+            Fault::Length => "length",
+            Fault::Content => "content",
+        }
+    }
+}
+
 impl fmt::Display for Fault {
     ghost output = { λ f. Some (fault_name f) };
 
     fn fmt<W: fmt::Write>(&self, f: &mut fmt::Formatter<W>) -> fmt::Result {
-        f.write_str(match self {
-            Fault::Tag => "tag",
-            Fault::Length => "length",
-            Fault::Content => "content",
-        })
+        f.write_str(self.name())
     }
 }
 
@@ -46,16 +55,25 @@ pub enum LinkFault {
     Mark,
 }
 
-impl fmt::Display for LinkFault {
-    ghost output = { λ f. Some (link_fault_name f) };
-
-    fn fmt<W: fmt::Write>(&self, f: &mut fmt::Formatter<W>) -> fmt::Result {
-        f.write_str(match self {
+impl LinkFault {
+    /// Its name in small letters.
+    pub fn name(self) -> &'static str
+        ensures { result.now ≡ link_fault_name self }
+    {
+        match self {
             LinkFault::Short => "short",
             LinkFault::Long => "long",
             LinkFault::Connection => "connection",
             LinkFault::Mark => "mark",
-        })
+        }
+    }
+}
+
+impl fmt::Display for LinkFault {
+    ghost output = { λ f. Some (link_fault_name f) };
+
+    fn fmt<W: fmt::Write>(&self, f: &mut fmt::Formatter<W>) -> fmt::Result {
+        f.write_str(self.name())
     }
 }
 
